@@ -9,6 +9,7 @@ abbrev mutual
   pub nodes-ty : Ty → ℕ
   nodes-ty (tyvar a) = 1
   nodes-ty (tyapp c as₁) = 1 + nodes-tys as₁
+
   pub nodes-tys : Tys → ℕ
   nodes-tys tnil = 0
   nodes-tys (tcons a as₁) = 1 + (nodes-ty a + nodes-tys as₁)
