@@ -24,3 +24,7 @@ impl Drop for Frame<'_> {
         *top = base;
     }
 }
+
+// Too few words were lent.
+#[derive(Clone, Copy, Debug, PartialEq, Eq)]
+pub struct NoRoom;
