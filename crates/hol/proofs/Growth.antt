@@ -35,7 +35,7 @@ grows-trans g h =
     }
 
 -- a name that is there differs from one that is not
-apart : {A : Type 0} (look : Word → Option A) (w c : Word) {x : A} → look w ≡ some x → is-some (look c) ≡ false
+pub apart : {A : Type 0} (look : Word → Option A) (w c : Word) {x : A} → look w ≡ some x → is-some (look c) ≡ false
     → same-word w c ≡ false
 apart look w c e n = elim (decided (same-word w c)) [ inl s ↦ clash (rw (← word-eq w c s, e)) n | inr s ↦ s ]
 

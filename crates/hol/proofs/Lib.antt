@@ -27,6 +27,32 @@ pub mod Steps
 pub mod Accepted
 -- each assumption stands once
 pub mod Once
+-- codes of functions
+pub mod Codes
+-- cardinalities of types
+pub mod Cards
+-- type variables, and cardinalities by them
+pub mod TypeVars
+-- types and values together, as a relation
+pub mod Denotes
+-- values where λs around a term come and go
+pub mod Binding
+-- values with terms for free variables, with types for type variables
+pub mod Instances
+-- values depend only on the variables that appear
+pub mod Depends
+-- values of constants
+pub mod Constants
+-- values in larger theories, and of defined constants
+pub mod Definitions
+-- when an equation holds
+pub mod Truths
+-- values of the terms that rules build
+pub mod Worths
+-- each rule keeps validity
+pub mod ValidRules
+-- what can be derived is valid
+pub mod Soundness
 -- the definitions at work: small texts, and what they come to
 pub mod Cases
 -- the mistakes that provers have made, each refused or done right by the definitions
