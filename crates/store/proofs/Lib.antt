@@ -1,0 +1,2 @@
+-- stores that grow: one step after another, and back to a mark
+pub mod Growth

@@ -1,0 +1,2 @@
+-- one call of a store after another
+mod Chain

@@ -1,0 +1,2 @@
+-- what the trial builds, and what it says
+pub mod Trials
