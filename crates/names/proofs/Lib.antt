@@ -1,0 +1,2 @@
+-- a name compared with bytes, from the front
+mod Spelling

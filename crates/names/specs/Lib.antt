@@ -1,0 +1,2 @@
+-- what follows the first byte of a name
+pub mod Tails
