@@ -1,10 +1,14 @@
 // Counts the S-expressions of a text, or finds that its brackets do not match: one pass over the bytes, with a depth and no memory.
+// `tokens` gives the tokens one after another, and `line_of` the line on which an S-expression begins.
 ghost use Rattle.reader.specs.Counts.{CountSays};
 
+mod line;
 mod state;
 #[cfg(test)]
 mod tests;
+pub mod tokens;
 
+pub use line::line_of;
 use state::Reader;
 
 // Why a text has no S-expressions: its brackets do not match.

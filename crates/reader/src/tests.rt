@@ -3,6 +3,9 @@ use crate::Fault;
 use crate::FaultDebug;
 use crate::FaultPartialEq;
 use crate::count;
+use crate::line_of;
+use crate::tokens::Token;
+use crate::tokens::Tokens;
 use std::alloc::AllocError;
 use std::alloc::Global;
 use std::test::*;
@@ -53,4 +56,64 @@ fn takes_brackets_of_any_depth(rt: LibcRuntime) -> Result<(), Fail> {
     check_eq(count(text.as_slice()), Ok(1))?;
     let text = nested(rt.alloc(), 100_000, 99_999)?;
     check_eq(count(text.as_slice()), Err(Fault::Broken))
+}
+
+// The tokens of a text, each with a blank behind it.
+fn spaced(heap: Global, text: &[u8]) -> Result<Vec<u8>, AllocError> {
+    let mut out = Vec::new(heap);
+    let mut tokens = Tokens::new(text);
+    while let Some(token) = tokens.next() {
+        match token {
+            Token::Open => out.push(b'(')?,
+            Token::Close => out.push(b')')?,
+            Token::Word(word) => out.extend_from_slice(word)?,
+        }
+        out.push(b' ')?;
+    }
+    Ok(out)
+}
+
+#[test]
+fn gives_tokens_in_order(rt: LibcRuntime) -> Result<(), Fail> {
+    let out = spaced(rt.alloc(), b"a;b(\n(c)")?;
+    check_eq(out.as_slice(), b"a ( c ) ")?;
+    let out = spaced(rt.alloc(), b"(a\r);\r(\n\tb")?;
+    check_eq(out.as_slice(), b"( a ) b ")
+}
+
+// The length of the word that the text begins with, or 0.
+fn first_word(text: &[u8]) -> usize {
+    match Tokens::new(text).peek() {
+        Some(Token::Word(word)) => word.len(),
+        _ => 0,
+    }
+}
+
+#[test]
+fn takes_every_other_byte_into_a_word(rt: LibcRuntime) -> Result<(), Fail> {
+    let mut text = Vec::new(rt.alloc());
+    for byte in 0..=255u8 {
+        match byte {
+            b' ' | b'\n' | b'\r' | b'\t' | b';' | b'(' | b')' => {}
+            _ => text.push(byte)?,
+        }
+    }
+    check_eq(first_word(text.as_slice()), 249)
+}
+
+#[test]
+fn takes_words_of_any_length(rt: LibcRuntime) -> Result<(), Fail> {
+    let mut text = Vec::new(rt.alloc());
+    for _ in 0..1_000_000 {
+        text.push(b'a')?;
+    }
+    check_eq(first_word(text.as_slice()), 1_000_000)
+}
+
+#[test]
+fn finds_lines() -> Result<(), Fail> {
+    let text = b"a\n;(\n(b\n c) d";
+    check_eq(line_of(text, 1), 1)?;
+    check_eq(line_of(text, 2), 3)?;
+    check_eq(line_of(text, 3), 4)
 }
