@@ -3,7 +3,6 @@ use mathlib.Core.Path.{_≡_, refl, sym, _∙_, ap, subst}
 use mathlib.Core.Bool.{true, cond, true≢false}
 use mathlib.Core.Logic.{_⊎_, inl, inr}
 use mathlib.Core.List.{List, [], _∷_}
-use mathlib.Core.Option.{some}
 use Prim.Native.Nat.{ℕ, _+_, _-_, _*_, _<_, _≤_}
 use native.Mathlib.Omega.{arith}
 use lib.Dec.{eqb}
@@ -21,15 +20,13 @@ use Rattle.std.specs.declared.result.Result.{Result}
 use Rattle.std.specs.declared.result.Result.the-variants.{Ok, Err}
 use Rattle.stack.specs.declared.frame.NoRoom.{NoRoom}
 use Rattle.rebuild_types.specs.Entries.{TyEntries}
-use Rattle.rebuild_types.specs.Machine.{Sort, one, many, Of, nodes, substituted, item, Item, nodes-item, Is, Path, root, args-of, head-of, tail-of, pending, code, Holds, holds-root, holds-args, holds-head, holds-tail, Point, down, up, end, outcome, spent, weight, moves, At, at-type, at-types, at-up, at-end, Moved}
+use Rattle.rebuild_types.specs.Machine.{Sort, one, many, Of, nodes, substituted, item, Item, nodes-item, Is, Path, root, args-of, head-of, tail-of, pending, code, Holds, holds-root, holds-args, holds-head, holds-tail, Point, down, outcome, spent, weight, moves, At, at-type, at-types, at-up, at-end, Moved, Stuck}
 use Rattle.rebuild_types.specs.declared.turn.Turn.{Turn}
 use Rattle.rebuild_types.specs.declared.turn.Turn.the-variants.{DownType, DownTypes, Up, End}
 use Rattle.rebuild_types.specs.declared.turn.Wait.the-variants.{Head}
 use Rattle.store.proofs.Growth.{grows-on, grows-more, grows-same}
 use Rattle.rebuild_types.proofs.Lookup.{entries-kept}
 use Rattle.stack.proofs.Lent.{same-trans, same-capacity}
-use Rattle.rebuild_types.proofs.Stack.{done-fits}
-use Rattle.rebuild_types.proofs.Steps.{Stuck}
 
 -- THE MEASURE: moves to come, for the words and for the turn
 abbrev pub word-moves : Contents → List ℕ → ℕ

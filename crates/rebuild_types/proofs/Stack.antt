@@ -1,14 +1,12 @@
 -- The stack's words and the path that they hold; bounds on paths.
-use mathlib.Core.Path.{_≡_, refl, sym, _∙_, ap}
-use mathlib.Core.List.{List, [], _∷_}
+use mathlib.Core.Path.{_≡_, _∙_, ap}
+use mathlib.Core.List.{List, _∷_}
 use mathlib.Core.Option.{some}
-use Prim.Native.Nat.{ℕ, _+_, _*_, _<_, _≤_}
+use Prim.Native.Nat.{ℕ, _+_, _*_, _≤_}
 use native.Mathlib.Omega.{arith}
 use lib.ListN.{length}
-use denote.Ref.{now}
 use Rattle.hol.specs.Base.{Word}
-use Rattle.hol.specs.Syntax.{Ty, tyvar, tyapp, Tys, tnil, tcons, TySubst, subst-tys}
-use Rattle.store.specs.Measures.{nodes-ty, nodes-tys}
+use Rattle.hol.specs.Syntax.{Ty, tyapp, Tys, tcons, TySubst, subst-tys}
 use Rattle.store.specs.State.{Contents, Keeps}
 use Rattle.stack.specs.Frames.{Same, capacity}
 use Rattle.stack.specs.declared.frame.Frame.{Frame}

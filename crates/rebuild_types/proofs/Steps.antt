@@ -1,29 +1,25 @@
 -- One lemma for each move of the machine that builds types anew.
 use mathlib.Core.Path.{_≡_, refl, sym, _∙_, ap}
 use mathlib.Core.Logic.{_⊎_, inl, inr}
-use mathlib.Core.List.{List, [], _∷_}
-use mathlib.Core.Option.{Option, some, none}
+use mathlib.Core.List.{List, _∷_}
+use mathlib.Core.Option.{some, none}
 use Prim.Native.Nat.{ℕ, _+_, _*_, _<_, _≤_}
 use native.Mathlib.Omega.{arith}
 use lib.ListN.{length}
 use Rattle.std.specs.declared.option.Option.the-variants.{Some, None}
-use Rattle.hol.specs.Base.{Word, option}
+use Rattle.hol.specs.Base.{Word}
 use Rattle.hol.specs.Syntax.{Ty, tyvar, tyapp, Tys, tnil, tcons, TySubst, find-ty, subst-ty, subst-tys}
 use Rattle.store.specs.Measures.{nodes-ty, nodes-tys}
-use Rattle.store.specs.State.{Contents, Keeps, State, Grows, Stays}
+use Rattle.store.specs.State.{Contents, State, Grows, Stays}
 use Rattle.store.specs.Builds.{Made, Full, Is-tyapp, Is-types}
 use Rattle.store.specs.Views.{ViewVariable, ViewNamed, ViewTypes}
-use Rattle.rebuild_types.specs.Entries.{TyEntries, Finds}
-use Rattle.rebuild_types.specs.Machine.{Sort, one, many, Of, nodes, item, nodes-item, Is, Path, root, args-of, head-of, tail-of, plug, finished, waiting, code, Holds, holds-root, holds-args, holds-head, holds-tail, Point, down, up, end, outcome, spent, weight, moves, At, at-type, at-types, at-up, at-end, Moved}
+use Rattle.rebuild_types.specs.Entries.{Finds}
+use Rattle.rebuild_types.specs.Machine.{Sort, Of, item, nodes-item, Is, Path, args-of, head-of, tail-of, plug, code, Holds, holds-root, holds-args, holds-head, holds-tail, Point, down, up, end, outcome, spent, weight, moves, At, at-type, at-types, at-up, at-end, Moved, Stuck}
 use Rattle.rebuild_types.specs.declared.turn.Turn.the-variants.{DownType, DownTypes, Up, End}
 use Rattle.rebuild_types.specs.declared.turn.Wait.{Wait}
 use Rattle.rebuild_types.specs.declared.turn.Wait.the-variants.{Arguments, Head, Tail}
 use Rattle.store.proofs.Growth.{grows-same}
-use Rattle.rebuild_types.proofs.Stack.{holds-kept, is-kept, held-length, done-fits, Top, top, top-args, top-head, top-tail}
-
--- a move from x is refused
-abbrev pub Stuck : TySubst → ℕ → State → Point → Type 0
-Stuck es capacity s x = (capacity < 4 * weight x) ⊎ (s .left + spent x < nodes-item (outcome es x))
+use Rattle.rebuild_types.proofs.Stack.{holds-kept, held-length, done-fits, Top, top, top-args, top-head, top-tail}
 
 -- what an entry or none says of a variable
 found-type : (es : TySubst) (c : Contents) (w : Word) (m : ℕ) → Finds c (find-ty es w) (Some m)

@@ -3,7 +3,6 @@ use mathlib.Core.Path.{_≡_, refl, sym, _∙_}
 use mathlib.Core.Bool.{Bool, true, false}
 use mathlib.Core.Logic.{inl, inr}
 use mathlib.Core.Option.{Option, some}
-use Prim.Native.Nat.{ℕ}
 use Rattle.hol.specs.Base.{Word, same-word}
 use Rattle.hol.specs.Syntax.{Ty, same-ty}
 use Rattle.hol.proofs.Tools.{decided, clash, some-same}

@@ -155,7 +155,10 @@ pub record Moved (es : TySubst) (s t : State) (ws : List ℕ) (x : Point) (turn 
   pub weight : weight to ≤ weight x
   pub moves : moves to < moves x
 
--- a move from x with a stack of so many words, by its answer: it is refused only for want of words or of nodes
+-- a move from x is refused only for want of words or of nodes
+abbrev pub Stuck : TySubst → (capacity : ℕ) → State → Point → Type 0
+Stuck es capacity s x = (capacity < 4 * weight x) ⊎ (s .left + spent x < nodes-item (outcome es x))
+
+-- a move from x with a stack of so many words, by its answer
 abbrev pub Moves : TySubst → (capacity : ℕ) → State → State → List ℕ → Point → Result Turn NoRoom → Type 0
-Moves es capacity s t ws x r =
-    Answers ((capacity < 4 * weight x) ⊎ (s .left + spent x < nodes-item (outcome es x))) (Moved es s t ws x) r
+Moves es capacity s t ws x r = Answers (Stuck es capacity s x) (Moved es s t ws x) r

@@ -1,5 +1,5 @@
 -- Stores that grow: one step after another, and back to a mark.
-use mathlib.Core.Path.{_≡_, refl, sym, _∙_}
+use mathlib.Core.Path.{_≡_, refl, _∙_}
 use Prim.Native.Nat.{ℕ, _+_, _≤_}
 use native.Mathlib.Omega.{arith}
 use Rattle.store.specs.State.{Contents, Keeps, State, Grows, Stays, back}
@@ -47,21 +47,13 @@ stays-on h k = record { grows = grows-on (h .grows) (k .grows); left = k .left �
 
 -- a mark m of s, released at t: all is as it was in s
 pub released : {m n : ℕ} {s t : State} → m ≡ s .count → s .at m ≡ s .contents → s .left-at m ≡ s .left → Grows n s t
-    → (back m t .contents ≡ s .contents) × Stays s (back m t)
+    → Stays s (back m t)
 released {m} {n} {s} {t} e c l g =
     let le : m ≤ s .count = omega arith in
     let same : back m t .contents ≡ s .contents = g .marks m le ∙ c in
-    let left : back m t .left ≡ s .left = g .lefts m le ∙ l in (
-      same,
-      record {
-        grows = record {
-          keeps = rw same keeps-same;
-          cost = omega arith;
-          count = omega arith;
-          marks = g .marks;
-          lefts = g .lefts;
-        };
-        left = left;
-        count = e;
-      },
-    )
+    let left : back m t .left ≡ s .left = g .lefts m le ∙ l in
+    record {
+      grows = record { keeps = rw same keeps-same; cost = omega arith; count = omega arith; marks = g .marks; lefts = g .lefts };
+      left = left;
+      count = e;
+    }

@@ -1,10 +1,9 @@
 -- Looking for free variables is going through a term.
-use mathlib.Core.Path.{_≡_, refl, sym, _∙_, ap}
+use mathlib.Core.Path.{_≡_, refl}
 use mathlib.Core.Bool.{Bool, true, false, _&&_, _||_}
 use mathlib.Core.List.{List, [], _∷_}
-use Prim.Native.Nat.{ℕ}
 use Rattle.hol.specs.Base.{Word}
-use Rattle.hol.specs.Syntax.{Ty, Tys, Tm, fvar, bvar, const, app, lam, closed, free-in}
+use Rattle.hol.specs.Syntax.{Ty, Tm, closed, free-in}
 use Rattle.walk.proofs.Pending.{run}
 use Rattle.walk.proofs.Passing.{Passes}
 
@@ -33,10 +32,20 @@ or-assoc true s t = refl
 or-assoc false s t = refl
 
 pub closing-passes : Passes closing
-closing-passes = record { bound = λ k s. and-true s; constant = λ c bs s. and-true s; apply = λ f x s. and-assoc s _ _; lambda = λ a t s. refl }
+closing-passes = record {
+  bound = λ k s. and-true s;
+  constant = λ c bs s. and-true s;
+  apply = λ f x s. and-assoc s _ _;
+  lambda = λ a t s. refl;
+}
 
 pub seeking-passes : (y : Word) (b : Ty) → Passes (seeking y b)
-seeking-passes y b = record { bound = λ k s. or-false s; constant = λ c bs s. or-false s; apply = λ f x s. or-assoc s _ _; lambda = λ a t s. refl }
+seeking-passes y b = record {
+  bound = λ k s. or-false s;
+  constant = λ c bs s. or-false s;
+  apply = λ f x s. or-assoc s _ _;
+  lambda = λ a t s. refl;
+}
 
 -- once decided it stays so
 pub run-open : (ts : List Tm) → run closing ts false ≡ false

@@ -15,13 +15,15 @@ use Rattle.walk.specs.TypeVars.{Gathers}
 use Rattle.walk.proofs.Pending.{Pending, ended}
 
 -- the first n of the words ns stand for the names gathered, and ws for the items still to come
-pub record Gathering {I : Type 0} (c : Contents) (at : ℕ → Option I) (act : I → List Word → List Word) (size : I → ℕ) (goal : List Word) (bound : ℕ) (ws ns : List ℕ) (n : ℕ) : Type 0 where
+pub record Gathering {I : Type 0} (c : Contents) (at : ℕ → Option I) (act : I → List Word → List Word) (size : I → ℕ)
+    (goal : List Word) (bound : ℕ) (ws ns : List ℕ) (n : ℕ) : Type 0 where
   pub gathered : List Word
   pub names : Names c (take n ns) gathered
   pub pending : Pending at act size goal bound ws gathered n
 
 -- nothing is left
-pub gathered-all : {I : Type 0} {c : Contents} {at : ℕ → Option I} {act : I → List Word → List Word} {size : I → ℕ} {goal : List Word} {bound : ℕ} {ws ns : List ℕ} {n : ℕ}
+pub gathered-all : {I : Type 0} {c : Contents} {at : ℕ → Option I} {act : I → List Word → List Word} {size : I → ℕ}
+    {goal : List Word} {bound : ℕ} {ws ns : List ℕ} {n : ℕ}
     → Gathering c at act size goal bound ws ns n → ws ≡ [] → Names c (take n ns) goal
 gathered-all h q = rw (ended (h .pending) q) at (h .names)
 
@@ -34,6 +36,7 @@ pub names-length : (c : Contents) (ns : List ℕ) (n : ℕ) {ws : List Word} →
 names-length c ns n l h = sym (stand-same-length h) ∙ length-take-le n ns l
 
 -- an answer for another want of room
-pub gathers-for : {X : Type 0} (p q : Type 0) (c : Contents) (ws : List Word) (n : ℕ) (ms : List ℕ) (m : ℕ) (r : Result X NoRoom) → (p → q) → Gathers p c ws n ms m r → Gathers q c ws n ms m r
+pub gathers-for : {X : Type 0} (p q : Type 0) (c : Contents) (ws : List Word) (n : ℕ) (ms : List ℕ) (m : ℕ) (r : Result X NoRoom)
+    → (p → q) → Gathers p c ws n ms m r → Gathers q c ws n ms m r
 gathers-for p q c ws n ms m (Ok x) f h = h
 gathers-for p q c ws n ms m (Err e) f h = (h .0, f (h .1))

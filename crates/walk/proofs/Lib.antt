@@ -1,22 +1,22 @@
 -- shapes: a name is tested, then a list of types for its length
-mod Recognised
+pub mod Recognised
 -- a stack of words that stand for items still to be gone through
-mod Pending
+pub mod Pending
 -- the room of the words that a frame was made over
-mod Room
+pub mod Room
 -- going through a term by the terms right below it
-mod Passing
+pub mod Passing
 -- looking for free variables is going through a term
-mod FreeVars
+pub mod FreeVars
 -- comparing numbers is comparing what they stand for
-mod Compared
+pub mod Compared
 -- a list of names in words
-mod NameLists
+pub mod NameLists
 -- a type or a term adds no more names than it has nodes
-mod Lengths
+pub mod Lengths
 -- gathering type variables by going through lists of types
-mod TypeLists
+pub mod TypeLists
 -- names gathered so far, while items are still to be gone through
-mod Gathering
+pub mod Gathering
 -- gathering type variables by going through a term
-mod TermTypes
+pub mod TermTypes

@@ -4,7 +4,7 @@
 --   size    how much an item weighs, at least 1
 use mathlib.Core.Path.{_≡_, refl, sym, _∙_, ap}
 use mathlib.Core.List.{List, [], _∷_, _++_}
-use mathlib.Core.Option.{Option, some, none}
+use mathlib.Core.Option.{Option, some}
 use Prim.Native.Nat.{ℕ, _+_, _<_, _≤_}
 use native.Mathlib.Omega.{arith}
 use lib.ListN.{length}
@@ -29,26 +29,31 @@ load at size (n ∷ ns) = option (at n) 0 size + load at size ns
 
 -- From the state s, going through what the words stand for ends in the goal. What was used and what is to come weigh no more than
 -- the bound.
-pub record Pending {I S : Type 0} (at : ℕ → Option I) (act : I → S → S) (size : I → ℕ) (goal : S) (bound : ℕ) (ns : List ℕ) (s : S) (used : ℕ) : Type 0 where
+pub record Pending {I S : Type 0} (at : ℕ → Option I) (act : I → S → S) (size : I → ℕ) (goal : S) (bound : ℕ) (ns : List ℕ)
+    (s : S) (used : ℕ) : Type 0 where
   pub items : List I
   pub stand : Stand at ns items
   pub ends : run act items s ≡ goal
   pub fits : used + weigh size items ≤ bound
 
-pub stand-append : {I : Type 0} {at : ℕ → Option I} {ns ms : List ℕ} {is js : List I} → Stand at ns is → Stand at ms js → Stand at (ns ++ ms) (is ++ js)
+pub stand-append : {I : Type 0} {at : ℕ → Option I} {ns ms : List ℕ} {is js : List I} → Stand at ns is → Stand at ms js
+    → Stand at (ns ++ ms) (is ++ js)
 stand-append done k = k
 stand-append (more e h) k = more e (stand-append h k)
 
-pub stand-load : {I : Type 0} {at : ℕ → Option I} (size : I → ℕ) {ns : List ℕ} {is : List I} → Stand at ns is → load at size ns ≡ weigh size is
+pub stand-load : {I : Type 0} {at : ℕ → Option I} (size : I → ℕ) {ns : List ℕ} {is : List I} → Stand at ns is
+    → load at size ns ≡ weigh size is
 stand-load size done = refl
 stand-load size (more {i = i} e h) = rw (e, stand-load size h)
 
-pub stand-length : {I : Type 0} {at : ℕ → Option I} (size : I → ℕ) → ((i : I) → 0 < size i) → {ns : List ℕ} {is : List I} → Stand at ns is → length ns ≤ weigh size is
+pub stand-length : {I : Type 0} {at : ℕ → Option I} (size : I → ℕ) → ((i : I) → 0 < size i) → {ns : List ℕ} {is : List I}
+    → Stand at ns is → length ns ≤ weigh size is
 stand-length size pos done = omega arith
 stand-length size pos (more {i = i} e h) = omega (arith, pos i, stand-length size pos h)
 
 -- what stood for an item stands for it
-pub stand-kept : {I : Type 0} {at to : ℕ → Option I} → ((n : ℕ) (i : I) → at n ≡ some i → to n ≡ some i) → {ns : List ℕ} {is : List I} → Stand at ns is → Stand to ns is
+pub stand-kept : {I : Type 0} {at to : ℕ → Option I} → ((n : ℕ) (i : I) → at n ≡ some i → to n ≡ some i)
+    → {ns : List ℕ} {is : List I} → Stand at ns is → Stand to ns is
 stand-kept k done = done
 stand-kept k (more {n = n} {i = i} e h) = more (k n i e) (stand-kept k h)
 
@@ -61,7 +66,8 @@ weigh-append size [] js = omega arith
 weigh-append size (i ∷ is) js = omega (arith, weigh-append size is js)
 
 -- What a turn does to the newest item i, in the state s: the words ms are pushed, the last of them newest, for the items js.
-pub record Turn {I S : Type 0} (at : ℕ → Option I) (act : I → S → S) (size : I → ℕ) (i : I) (ms : List ℕ) (s t : S) (used spent : ℕ) : Type 0 where
+pub record Turn {I S : Type 0} (at : ℕ → Option I) (act : I → S → S) (size : I → ℕ) (i : I) (ms : List ℕ) (s t : S)
+    (used spent : ℕ) : Type 0 where
   pub items : List I
   pub stand : {ns : List ℕ} {is : List I} → Stand at ns is → Stand at (onto ms ns) (items ++ is)
   pub does : act i s ≡ run act items t
@@ -69,7 +75,8 @@ pub record Turn {I S : Type 0} (at : ℕ → Option I) (act : I → S → S) (si
   pub weighs : spent + weigh size items < used + size i
 
 -- an item that does nothing
-skipped : {I S : Type 0} {at : ℕ → Option I} {act : I → S → S} {size : I → ℕ} {i : I} {s : S} {used : ℕ} → act i s ≡ s → 0 < size i → Turn at act size i [] s s used used
+skipped : {I S : Type 0} {at : ℕ → Option I} {act : I → S → S} {size : I → ℕ} {i : I} {s : S} {used : ℕ} → act i s ≡ s
+    → 0 < size i → Turn at act size i [] s s used used
 skipped d l = record { items = []; stand = λ h. h; does = d; rises = omega arith; weighs = omega arith }
 
 pub onto-length : (ms ns : List ℕ) → length (onto ms ns) ≡ length ms + length ns
@@ -78,7 +85,8 @@ onto-length (m ∷ ms) ns = omega (arith, onto-length ms (m ∷ ns))
 
 module _ {I S : Type 0} {at : ℕ → Option I} {act : I → S → S} {size : I → ℕ} {goal : S} {bound : ℕ} where
   -- one item alone
-  pub begin : {n : ℕ} {ws : List ℕ} → ws ≡ n ∷ [] → (i : I) → at n ≡ some i → (s : S) → act i s ≡ goal → (used : ℕ) → used + size i ≤ bound
+  pub begin : {n : ℕ} {ws : List ℕ} → ws ≡ n ∷ [] → (i : I) → at n ≡ some i → (s : S) → act i s ≡ goal → (used : ℕ)
+      → used + size i ≤ bound
       → Pending at act size goal bound ws s used
   begin q i e s h used l = rw q (record { items = i ∷ []; stand = more e done; ends = h; fits = omega arith })
 
@@ -120,7 +128,12 @@ module _ {I S : Type 0} {at : ℕ → Option I} {act : I → S → S} {size : I 
         turned b =
             let (is, h, r, l) = others in
             let k = u .weighs in
-            rw b (record { items = u .items ++ is; stand = u .stand h; ends = run-append act (u .items) is t ∙ (ap (run act is) (sym (u .does)) ∙ r); fits = omega (arith, weigh-append size (u .items) is) })
+            rw b (record {
+              items = u .items ++ is;
+              stand = u .stand h;
+              ends = run-append act (u .items) is t ∙ (ap (run act is) (sym (u .does)) ∙ r);
+              fits = omega (arith, weigh-append size (u .items) is);
+            })
 
         -- the weight of what is to come falls
         pub falls : {vs : List ℕ} → vs ≡ onto ms ns → load at size vs < load at size ws
@@ -141,15 +154,18 @@ module _ {I S : Type 0} {at : ℕ → Option I} {act : I → S → S} {size : I 
             omega (arith, weigh-append size (u .items) is, onto-length ms ns)
 
 -- in another store that keeps what this one has
-module _ {I S : Type 0} {at to : ℕ → Option I} (k : (n : ℕ) (i : I) → at n ≡ some i → to n ≡ some i) {act : I → S → S} {size : I → ℕ} {goal : S} {bound : ℕ} where
-  pub kept : {ws : List ℕ} {s : S} {used : ℕ} → Pending at act size goal bound ws s used → Pending to act size goal bound ws s used
+module _ {I S : Type 0} {at to : ℕ → Option I} (k : (n : ℕ) (i : I) → at n ≡ some i → to n ≡ some i) {act : I → S → S}
+    {size : I → ℕ} {goal : S} {bound : ℕ} where
+  pub kept : {ws : List ℕ} {s : S} {used : ℕ} → Pending at act size goal bound ws s used
+      → Pending to act size goal bound ws s used
   kept p = record { items = p .items; stand = stand-kept k (p .stand); ends = p .ends; fits = p .fits }
 
   pub kept-load : {ws : List ℕ} {s : S} {used : ℕ} → Pending at act size goal bound ws s used → load to size ws ≡ load at size ws
   kept-load p = stand-load size (stand-kept k (p .stand)) ∙ sym (stand-load size (p .stand))
 
   -- the newest item does nothing
-  module _ {ws ns : List ℕ} {n : ℕ} {s : S} {used : ℕ} (p : Pending at act size goal bound ws s used) (q : ws ≡ n ∷ ns) (i : I) (e : at n ≡ some i) (d : act i s ≡ s) (l : 0 < size i) where
+  module _ {ws ns : List ℕ} {n : ℕ} {s : S} {used : ℕ} (p : Pending at act size goal bound ws s used) (q : ws ≡ n ∷ ns) (i : I)
+      (e : at n ≡ some i) (d : act i s ≡ s) (l : 0 < size i) where
     pub skip-turned : Pending to act size goal bound ns s used
     skip-turned = kept (turned p q i e (skipped d l) refl)
 

@@ -1,11 +1,11 @@
 -- Shapes: a name is tested, then a list of types for its length.
-use mathlib.Core.Path.{_≡_, refl, sym, _∙_, ap}
+use mathlib.Core.Path.{_≡_, refl, sym}
 use mathlib.Core.Bool.{Bool, true, false}
 use mathlib.Core.Option.{Option as Found, some, none}
 use Rattle.std.specs.declared.option.Option.{Option}
 use Rattle.std.specs.declared.option.Option.the-variants.{Some, None}
 use Rattle.hol.specs.Base.{Word, guard, same-word}
-use Rattle.hol.specs.Syntax.{Ty, tyvar, tyapp, Tys, tnil, tcons, Tm, const, w-eq, w-fun, arrow}
+use Rattle.hol.specs.Syntax.{tyapp, Tys, tnil, tcons, const, w-eq, w-fun, arrow}
 use Rattle.hol.specs.Kernel.{eq-of}
 use Rattle.walk.specs.Parts.{Like, only, two}
 
@@ -25,7 +25,8 @@ arrow-named w (tcons a (tcons b tnil)) = refl
 arrow-named w (tcons a (tcons b (tcons d ds))) = sym (guard-none _)
 
 -- the test came out true, or false
-pub like-taken : {A B : Type 0} (R : A → B → Type 0) (o p : Found A) (b : Bool) (r : Option B) → o ≡ guard b p → true ≡ b → Like R p r → Like R o r
+pub like-taken : {A B : Type 0} (R : A → B → Type 0) (o p : Found A) (b : Bool) (r : Option B) → o ≡ guard b p → true ≡ b
+    → Like R p r → Like R o r
 like-taken R o p b r e t l = rw (e, ← t) l
 
 pub like-left : {A B : Type 0} (R : A → B → Type 0) (o p : Found A) (b : Bool) → o ≡ guard b p → false ≡ b → Like R o None

@@ -5,7 +5,7 @@ use Prim.Native.Nat.{ℕ}
 use Rattle.std.specs.declared.option.Option.{Option}
 use Rattle.std.specs.declared.option.Option.the-variants.{Some, None}
 use Rattle.hol.specs.Base.{bind}
-use Rattle.hol.specs.Syntax.{Ty, Tys, tnil, tcons, Tm, Arrow}
+use Rattle.hol.specs.Syntax.{Ty, Tys, tnil, tcons, Arrow}
 use Rattle.hol.specs.Kernel.{App, Lam, Sides}
 use Rattle.store.specs.State.{Contents}
 use Rattle.walk.specs.declared.parts.Application.{Application}

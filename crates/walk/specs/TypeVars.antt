@@ -7,7 +7,7 @@ use Prim.Native.Nat.{ℕ, _+_, _<_, _≤_}
 use lib.ListN.{length, take}
 use Rattle.std.specs.declared.result.Result.{Result}
 use Rattle.hol.specs.Base.{Word}
-use Rattle.hol.specs.Syntax.{Ty, tyvar, tyapp, Tys, tnil, tcons, Tm, fvar, bvar, const, app, lam, tyvars-ty, tyvars-tys}
+use Rattle.hol.specs.Syntax.{tyvar, tyapp, Tys, tnil, tcons, Tm, fvar, bvar, const, app, lam, tyvars-ty, tyvars-tys}
 use Rattle.store.specs.Measures.{nodes-ty, nodes-tys}
 use Rattle.store.specs.State.{Contents}
 use Rattle.stack.specs.Answers.{Answers}

@@ -1,6 +1,6 @@
 // Type variables, in the order in which they first appear. Their names are gathered as the first `count` of `names`, which the caller
 // lends: those that are there already stay, and are not gathered again.
-ghost use Prim.Native.Nat.{_+_, _-_, _<_, _≤_};
+ghost use Prim.Native.Nat.{_+_, _-_, _≤_};
 ghost use mathlib.Core.Path.{_≡_};
 ghost use mathlib.Core.List.{List};
 ghost use mathlib.Core.Option.{some};

@@ -1,4 +1,4 @@
-use mathlib.Core.Path.{refl, _∙_}
+use mathlib.Core.Path.{_∙_}
 use Rattle.stack.specs.Frames.{held, capacity}
 use Rattle.rebuild_types.proofs.up.Needs as need
 use Rattle.stack.proofs.Lent.{same-trans, same-capacity}

@@ -21,4 +21,8 @@ returns-then-same-name g c =
 pub returns-else-same-name : need.returns-else-same-name
 returns-else-same-name g c =
     let n = c .same-name .ensures in
-    record { stays = n .stays; same = λ v d w e hv hd hw he. c .if-same-name .left ∙ ap (λ b. b && same-ty d e) (sym (c .if-same-name .left) ∙ words-compared hv hw (n .sound) (n .complete)) }
+    record {
+      stays = n .stays;
+      same = λ v d w e hv hd hw he. c .if-same-name .left ∙ ap (λ b. b && same-ty d e)
+          (sym (c .if-same-name .left) ∙ words-compared hv hw (n .sound) (n .complete));
+    }

@@ -16,7 +16,8 @@ returns-then-same-name g c =
       found = λ w ws hw h.
           let m = met (c .loop-other .inv .1 w ws hw h) (c .loop-other-test .taken) in
           let k = s .grows .keeps .word in
-          sym (m .found (sym (words-compared (k _ w hw) (k _ (m .name) (m .name-is)) (n .sound) (n .complete)) ∙ c .if-same-name .taken));
+          sym (m .found (sym (words-compared (k _ w hw) (k _ (m .name) (m .name-is)) (n .sound) (n .complete)) ∙ c .if-same-name
+          .taken));
     }
 
 pub loop-other-again : need.loop-other-again
@@ -27,8 +28,12 @@ loop-other-again g c =
       λ w ws hw h.
           let m = met (c .loop-other .inv .1 w ws hw h) (c .loop-other-test .taken) in
           let k = s .grows .keeps .word in
-          m .missed (sym (words-compared (k _ w hw) (k _ (m .name) (m .name-is)) (n .sound) (n .complete)) ∙ c .if-same-name .left),
+          m .missed (sym (words-compared (k _ w hw) (k _ (m .name) (m .name-is)) (n .sound) (n .complete)) ∙ c .if-same-name
+          .left),
     )
 
 pub returns : need.returns
-returns g c = record { stays = c .loop-other .inv .0; found = λ w ws hw h. sym (none-left (c .loop-other .inv .1 w ws hw h) (c .loop-other-test .left)) }
+returns g c = record {
+  stays = c .loop-other .inv .0;
+  found = λ w ws hw h. sym (none-left (c .loop-other .inv .1 w ws hw h) (c .loop-other-test .left));
+}

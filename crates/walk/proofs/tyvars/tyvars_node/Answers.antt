@@ -23,7 +23,8 @@ returns-in-Free g c =
       adds = t .adds;
       cases = λ u ws says h.
           let v = rw (c .in-Free .is) at says in
-          own-gathered f w u _ (v .is) (length (c .args .names .now) - n) (g .S·Store .state (last .store) .contents) ws n (last .names) (last .count) (c .tyvars-type .result) (t .cases (v .ty) ws (v .ty-is) h);
+          own-gathered f w u _ (v .is) (length (c .args .names .now) - n) (g .S·Store .state (last .store) .contents) ws n
+          (last .names) (last .count) (c .tyvars-type .result) (t .cases (v .ty) ws (v .ty-is) h);
     }
 
 pub returns-in-Constant : need.returns-in-Constant
@@ -44,7 +45,8 @@ returns-in-Constant g c =
       adds = t .adds;
       cases = λ u ws says h.
           let v = rw (c .in-Constant .is) at says in
-          own-gathered f w u _ (v .is) (length (c .args .names .now) - n) (g .S·Store .state (last .store) .contents) ws n (last .names) (last .count) (c .tyvars-types .result) (t .cases (v .args) ws (v .args-are) h);
+          own-gathered f w u _ (v .is) (length (c .args .names .now) - n) (g .S·Store .state (last .store) .contents) ws n
+          (last .names) (last .count) (c .tyvars-types .result) (t .cases (v .args) ws (v .args-are) h);
     }
 
 pub returns-in-Lambda : need.returns-in-Lambda
@@ -65,5 +67,6 @@ returns-in-Lambda g c =
       adds = t .adds;
       cases = λ u ws says h.
           let v = rw (c .in-Lambda .is) at says in
-          own-gathered f w u _ (v .is) (length (c .args .names .now) - n) (g .S·Store .state (last .store) .contents) ws n (last .names) (last .count) (c .tyvars-type-in-Lambda .result) (t .cases (v .ty) ws (v .ty-is) h);
+          own-gathered f w u _ (v .is) (length (c .args .names .now) - n) (g .S·Store .state (last .store) .contents) ws n
+          (last .names) (last .count) (c .tyvars-type-in-Lambda .result) (t .cases (v .ty) ws (v .ty-is) h);
     }

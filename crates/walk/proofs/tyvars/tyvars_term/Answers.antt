@@ -1,4 +1,4 @@
-use mathlib.Core.Path.{refl, sym, _∙_, ap}
+use mathlib.Core.Path.{refl, _∙_, ap}
 use mathlib.Core.List.{_∷_}
 use mathlib.Core.Logic.{inl, inr}
 use native.Mathlib.Omega.{arith}
@@ -19,20 +19,36 @@ use Rattle.walk.proofs.tyvars.tyvars_term.Needs as need
 
 pub loop-next-holds : need.loop-next-holds
 loop-next-holds g c =
-    let e = c .if-not-push .ensures tt in
-    (lent (e .within), stays-same, adds-none _ _ (c .pre .count), λ u ws hu h. record { gathered = ws; names = h; pending = begin (e .cases ∙ ap (λ ns. c .args .t ∷ ns) (c .new-pending .ensures .held)) u hu ws refl (c .args .count .now) (omega arith) })
+    let e = c .if-not-push .ensures tt in (
+      lent (e .within),
+      stays-same,
+      adds-none _ _ (c .pre .count),
+      λ u ws hu h. record {
+        gathered = ws;
+        names = h;
+        pending = begin (e .cases ∙ ap (λ ns. c .args .t ∷ ns) (c .new-pending .ensures .held)) u hu ws refl (c .args .count .now)
+            (omega arith);
+      },
+    )
 
 pub term-at-view-requires : need.term-at-view-requires
 term-at-view-requires g c κs =
     let p = c .pre in
-    newest (c .loop-next .inv .3 (p .stands .0) (p .names .0) (p .stands .1) (p .names .1) .pending) (c .in-Some .ensures tt .cases)
+    newest (c .loop-next .inv .3 (p .stands .0) (p .names .0) (p .stands .1) (p .names .1) .pending)
+    (c .in-Some .ensures tt .cases)
 
 pub tyvars-node-requires : need.tyvars-node-requires
 tyvars-node-requires g c κs =
     let p = c .pre in
     let q = c .loop-next .inv .3 (p .stands .0) (p .names .0) (p .stands .1) (p .names .1) in
     let e = c .in-Some .ensures tt in
-    record { within = e .within; count = c .loop-next .inv .2 .high; names = (q .gathered, q .names); stands = viewed (g .S·Store .state (c .loop-next .store) .contents) q (e .cases) (c .term-at-view .result) (c .term-at-view .ensures) }
+    record {
+      within = e .within;
+      count = c .loop-next .inv .2 .high;
+      names = (q .gathered, q .names);
+      stands = viewed (g .S·Store .state (c .loop-next .store) .contents) q (e .cases) (c .term-at-view .result)
+          (c .term-at-view .ensures);
+    }
 
 pub loop-next-less : need.loop-next-less
 loop-next-less g c =
@@ -40,7 +56,9 @@ loop-next-less g c =
     let q = c .loop-next .inv .3 (p .stands .0) (p .names .0) (p .stands .1) (p .names .1) in
     let v = c .term-at-view .result in
     let t = c .in-rest-tyvars-node .ensures tt in
-    term-falls (g .S·Store .state (c .loop-next .store) .contents) q (c .in-Some .ensures tt .cases) v (c .term-at-view .ensures) (t .stays .grows .keeps) (c .loop-next .inv .2 .high) (t .adds) (λ u says. t .cases u (q .gathered) says (q .names)) (c .if-not-push-subterms .ensures tt .cases ∙ ap (onto (below v)) (t .held))
+    term-falls (g .S·Store .state (c .loop-next .store) .contents) q (c .in-Some .ensures tt .cases) v (c .term-at-view .ensures)
+    (t .stays .grows .keeps) (c .loop-next .inv .2 .high) (t .adds) (λ u says. t .cases u (q .gathered) says (q .names))
+    (c .if-not-push-subterms .ensures tt .cases ∙ ap (onto (below v)) (t .held))
 
 pub loop-next-again : need.loop-next-again
 loop-next-again g c =
@@ -56,7 +74,9 @@ loop-next-again g c =
       adds-trans a (t .adds),
       λ u ws hu h.
           let q = c .loop-next .inv .3 u ws hu h in
-          term-turned (g .S·Store .state (c .loop-next .store) .contents) q (e .cases) v (c .term-at-view .ensures) (t .stays .grows .keeps) (a .high) (t .adds) (λ x says. t .cases x (q .gathered) says (q .names)) (s .cases ∙ ap (onto (below v)) (t .held)),
+          term-turned (g .S·Store .state (c .loop-next .store) .contents) q (e .cases) v (c .term-at-view .ensures)
+          (t .stays .grows .keeps) (a .high) (t .adds) (λ x says. t .cases x (q .gathered) says (q .names))
+          (s .cases ∙ ap (onto (below v)) (t .held)),
     )
 
 pub returns-in-Err : need.returns-in-Err
@@ -73,7 +93,8 @@ returns-in-Err g c =
       adds = adds-back (adds-trans a (t .adds));
       cases = λ u ws hu h.
           let q = c .loop-next .inv .3 u ws hu h in
-          let (x, says, l) = own-fits (g .S·Store .state (c .loop-next .store) .contents) q (e .cases) (c .term-at-view .result) (c .term-at-view .ensures) in (
+          let (x, says, l) = own-fits (g .S·Store .state (c .loop-next .store) .contents) q (e .cases) (c .term-at-view .result)
+          (c .term-at-view .ensures) in (
             refl,
             elim (t .cases x (q .gathered) says (q .names) .1) [
               | inl r ↦ inl (lent-room _ _ (nodes-tm u) (n .base) (n .words) m (omega (arith, l, r, a .low)))
@@ -96,15 +117,34 @@ returns-then-not-push-subterms g c =
       adds = adds-back a;
       cases = λ u ws hu h.
           let q = c .loop-next .inv .3 u ws hu h in
-          let l = term-fits (g .S·Store .state (c .loop-next .store) .contents) q (e .cases) v (c .term-at-view .ensures) (t .stays .grows .keeps) (c .loop-next .inv .2 .high) (t .adds) (λ x says. t .cases x (q .gathered) says (q .names)) in
-          (refl, inl (lent-room _ _ (nodes-tm u) (n .base) (n .words) k (omega (arith, l, a .low, ap length (t .held), c .if-not-push-subterms .ensures tt .cases .1))));
+          let l = term-fits (g .S·Store .state (c .loop-next .store) .contents) q (e .cases) v (c .term-at-view .ensures)
+          (t .stays .grows .keeps) (c .loop-next .inv .2 .high) (t .adds) (λ x says. t .cases x (q .gathered) says (q .names))
+          in (
+            refl,
+            inl (lent-room _ _ (nodes-tm u) (n .base) (n .words) k
+                (omega (arith, l, a .low, ap length (t .held), c .if-not-push-subterms .ensures tt .cases .1))),
+          );
     }
 
 pub returns : need.returns
-returns g c = record { stack = search needs; stays = c .loop-next .inv .1; adds = c .loop-next .inv .2; cases = λ u ws hu h. gathered-all (c .loop-next .inv .3 u ws hu h) (c .in-rest .ensures tt .cases .1) }
+returns g c = record {
+  stack = search needs;
+  stays = c .loop-next .inv .1;
+  adds = c .loop-next .inv .2;
+  cases = λ u ws hu h. gathered-all (c .loop-next .inv .3 u ws hu h) (c .in-rest .ensures tt .cases .1);
+}
 
 pub returns-then-not-push : need.returns-then-not-push
 returns-then-not-push g c =
     let e = c .if-not-push .ensures tt in
     let n = c .new-pending .ensures in
-    record { stack = search needs; stays = stays-same; adds = adds-none _ _ (c .pre .count); cases = λ u ws hu h. (refl, inl (lent-room _ _ (nodes-tm u) (n .base) (n .words) (c .push .ensures .same) (omega (arith, e .cases .1, ap length (n .held), nodes-positive u)))) }
+    record {
+      stack = search needs;
+      stays = stays-same;
+      adds = adds-none _ _ (c .pre .count);
+      cases = λ u ws hu h. (
+        refl,
+        inl (lent-room _ _ (nodes-tm u) (n .base) (n .words) (c .push .ensures .same)
+            (omega (arith, e .cases .1, ap length (n .held), nodes-positive u))),
+      );
+    }

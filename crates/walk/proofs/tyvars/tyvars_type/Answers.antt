@@ -20,7 +20,8 @@ returns-in-Variable g c =
       adds = i .adds;
       cases = λ b ws hb h.
           let v = c .in-Variable .ensures tt b hb in
-          rw (v .is) (gathers-for (places < 1) (Short room places 1) (g .S·Store .state (last .store) .contents) (insert (v .name) ws) n (last .names) (last .count) (c .insert .result) inr (i .cases (v .name) ws (v .name-is) h));
+          rw (v .is) (gathers-for (places < 1) (Short room places 1) (g .S·Store .state (last .store) .contents)
+          (insert (v .name) ws) n (last .names) (last .count) (c .insert .result) inr (i .cases (v .name) ws (v .name-is) h));
     }
 
 pub returns-in-Named : need.returns-in-Named

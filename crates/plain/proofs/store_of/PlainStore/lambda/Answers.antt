@@ -1,0 +1,6 @@
+use Rattle.nodes.proofs.Growing.{builds-so}
+use Rattle.plain.proofs.Building.{is-lam}
+use Rattle.plain.proofs.store_of.PlainStore.lambda.Needs as need
+
+pub returns : need.returns
+returns c = builds-so 1 _ _ _ _ (c .put .result) (c .put .ensures) (is-lam _ (c .args .a) (c .args .t))

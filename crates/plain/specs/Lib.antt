@@ -1,0 +1,2 @@
+-- how a node is shown
+pub mod Shown
