@@ -1,6 +1,5 @@
 -- The loop that reads a list of types: from one turn to the next.
 use mathlib.Core.Path.{_≡_, refl, sym, _∙_, ap}
-use mathlib.Core.Logic.{_⊎_, inl, inr}
 use mathlib.Core.List.{List, [], _∷_, _++_}
 use mathlib.Core.Option.{Option, some, none}
 use Prim.Native.Nat.{ℕ, _+_, _*_, _<_, _≤_}
@@ -16,7 +15,6 @@ use Rattle.parser_types.specs.Reads.{Read, Unread}
 use Rattle.parser_types.specs.Machine.{Path, root, Point, reading, closing, ended, failed, outcome, weight, Holds, holds-root, At, at-next, at-close, at-end, at-fail, Moved}
 use Rattle.parser_types.specs.declared.turn.Turn.{Turn}
 use Rattle.parser_types.specs.declared.turn.Turn.the-variants.{Next, Close, End, Fail}
-use Rattle.parser_types.proofs.Steps.{Stuck}
 
 -- On the way from s₀, where the trees us were ahead, then the bracket that closes, then qs: what comes out is what is read of us, and
 -- what was paid and what is still to be paid is no more than they cost.
@@ -57,11 +55,6 @@ next w m =
       grows = grows-on (w .grows) (m .grows);
       weight = omega arith;
     }
-
-pub stuck : {s₀ s : State} {ws : List ℕ} {ps qs : List Token} {us : Sexps} {a : Turn} {capacity : ℕ} → (w : Way s₀ s ws ps qs us a)
-    → Stuck capacity s (w .point) → (s₀ .left < costs us) ⊎ (capacity < 4 * costs us)
-stuck w (inl l) = let i = w .weight in let j = w .grows .cost in inl (omega arith)
-stuck w (inr l) = let i = w .weight in inr (omega arith)
 
 pub all-read : {s₀ s : State} {ws : List ℕ} {ps qs : List Token} {us : Sexps} {n : ℕ} → Way s₀ s ws ps qs us (End n)
     → Read (λ c. c .types) (read-types us) (costs us) s₀ s qs ps n

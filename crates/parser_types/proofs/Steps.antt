@@ -23,10 +23,6 @@ use Rattle.parser_types.specs.declared.turn.Mark.{Mark}
 use Rattle.parser_types.specs.declared.turn.Mark.the-variants.{Bracket, Argument}
 use Rattle.parser_types.proofs.Stack.{holds-kept, held-length, Top, top-type, top-name, top}
 
--- a move from x is refused
-abbrev pub Stuck : ℕ → State → Point → Type 0
-Stuck capacity s x = (s .left < weight x) ⊎ (capacity < 4 * weight x)
-
 pub finish-none : (p : Path) → finish p none ≡ none
 finish-none root = refl
 finish-none (inside c as₁ vs p) = finish-none p

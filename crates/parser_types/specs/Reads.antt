@@ -44,7 +44,7 @@ Reads kept o room cost s t qs ps r = Answers ((s .left < cost) ⊎ (room < 4 * c
 
 -- there was nothing to be read
 abbrev pub Absent : State → State → Result (Option ℕ) NoRoom → Type 0
-Absent s t r = (r ≡ Ok None) × (t ≡ s)
+Absent s t r = (r ≡ Ok None) × Grows 0 s t
 
 -- the type that a word stands for
 abbrev pub Is-word-type : Word → Contents → ℕ → Type 0

@@ -1,7 +1,8 @@
 use borrow.Author.Needs.{needs}
-use mathlib.Core.Path.{_≡_, refl, sym, _∙_}
+use mathlib.Core.Path.{refl, sym, _∙_}
 use mathlib.Core.Logic.{inl, inr}
 use Rattle.reader.proofs.Streams.{flat-empty, flat-closes}
+use Rattle.store.proofs.Growth.{grows-same}
 use Rattle.parser_types.proofs.Refused.{refused}
 use Rattle.parser_types.proofs.Single.{given-token, nothing-closes, word-closes, open-closes, word-read, word-short, unnamed, name-short, arguments, arguments-unread, arguments-short, bracket-read, bracket-short}
 use Rattle.parser_types.proofs.read_type.Needs as need
@@ -17,7 +18,7 @@ pub returns-in-Close : need.returns-in-Close
 returns-in-Close g c = record {
   stack = search needs;
   cases = λ u qs e. absurd (flat-closes u qs _ (sym e ∙ given-token (c .in-Some .ensures tt) (c .in-Close .is)));
-  none = λ qs e. (refl, refl);
+  none = λ qs e. (refl, grows-same);
 }
 
 pub returns-in-Break-a : need.returns-in-Break-a

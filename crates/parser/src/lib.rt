@@ -1,0 +1,5 @@
+// Terms from a stream of tokens, into any store.
+mod brackets;
+mod scope;
+pub mod term;
+pub mod turn;
