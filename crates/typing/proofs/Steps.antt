@@ -155,7 +155,7 @@ module _ (th : Theory) (s t : State) (ws ss : List ℕ) (n : ℕ) where
       let q = ok (v .ty) (v .ty-is) in
       not-typed 0 (g .grows) (omega arith) (ap (type-in th (scope p)) (v .is) ∙ rw (← q) refl)
 
--- UP with a type, whose number is n, to what waits for it
+  -- UP with a type, whose number is n, to what waits for it
   -- nothing waits
   pub all-done : {x : Point} → At (s .contents) ws ss (Up n) x → ws ≡ [] → Moved th s s ws ss x (End n)
   all-done (at-up {a = a} e (holds-root w q)) z = record { to = end a; at = at-end e; outcome = refl; cost = 0; grows = grows-same; built = omega arith; weight = omega arith; moves = omega arith }

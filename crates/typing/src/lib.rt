@@ -2,9 +2,9 @@
 mod count;
 mod first;
 mod form;
-pub mod instance;
 pub mod infer;
-pub mod ok;
-pub mod turn;
+pub mod instance;
 mod lent;
+pub mod ok;
 mod scope;
+pub mod turn;
