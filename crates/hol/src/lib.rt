@@ -1,5 +1,7 @@
 // Higher-order logic: its definitions (specs/) and the theorems about them, each the contract of a small function.
 
+#![tactic(auto)]
+
 pub mod theorems;
 pub mod truth;
 

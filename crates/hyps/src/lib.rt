@@ -1,4 +1,6 @@
 // Assumption lists over any store: membership, union, removal, each once. Each function is the definition of its name.
+#![tactic(auto)]
+
 ghost use Rattle.std.specs.Prelude.{◌≡◌, ◌-◌, ◌<◌, ◌≤◌, ◌⊎◌, List, length};
 ghost use Rattle.std.proofs.Math.Option.{some};
 ghost use Rattle.hol.specs.Syntax.{Tm};

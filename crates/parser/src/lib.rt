@@ -1,4 +1,6 @@
 // Terms from a stream of tokens, into any store.
+#![tactic(auto)]
+
 mod brackets;
 mod scope;
 pub mod term;

@@ -1,4 +1,6 @@
 // Types and lists of types from a stream of tokens, into any store.
+#![tactic(auto)]
+
 ghost use Rattle.std.specs.Prelude.{◌≡◌, ℕ, ◌+◌, ◌-◌, ◌≤◌, List, ◌∷◌, ◌++◌, length};
 ghost use Rattle.hol.specs.Theory.{is_tyvar};
 ghost use Rattle.hol.specs.Text.{Token as Sign, closes, Sexp, Sexps, read_type, read_types};

@@ -1,4 +1,6 @@
 // The plain store: a table of nodes in lent words. It keeps every node that is built, and nothing is shared that was built apart.
+#![tactic(auto)]
+
 ghost use Rattle.std.specs.Prelude.{◌≡◌};
 ghost use Rattle.nodes.specs.Meaning.{state_of};
 

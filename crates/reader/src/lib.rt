@@ -1,5 +1,7 @@
 // Counts the S-expressions of a text, or finds that its brackets do not match: one pass over the bytes, with a depth and no memory.
 // `tokens` gives the tokens one after another, and `line_of` the line on which an S-expression begins.
+#![tactic(auto)]
+
 ghost use Rattle.reader.specs.Counts.{CountSays};
 
 mod line;

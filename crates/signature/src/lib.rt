@@ -1,4 +1,6 @@
 // What typing asks of a theory: how many arguments a type's name takes, and which type a constant has.
+#![tactic(auto)]
+
 ghost use Rattle.std.specs.Prelude.{◌≡◌};
 ghost use Rattle.std.proofs.Math.Option.{some};
 ghost use Rattle.hol.specs.Base.{Word};

@@ -1,4 +1,6 @@
 // A stack of words that the caller lends, taken and given back by a guard.
+#![tactic(auto)]
+
 ghost use Rattle.std.specs.Prelude.{◌≡◌, ℕ, suc, ◌+◌, ◌-◌, ◌<◌, ◌≤◌, true, false, List, [], ◌∷◌, length};
 ghost use Rattle.stack.specs.Frames.{held, capacity, Within, Same, Pushes, Pops, PopsPair};
 

@@ -1,5 +1,7 @@
 // What the steps of a proof and the commands of a text say, by numbers of a store.
 
+#![tactic(auto)]
+
 // The number of a name.
 #[derive(Clone, Copy)]
 pub struct NameId(pub u64);

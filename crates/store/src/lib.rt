@@ -1,5 +1,7 @@
 // Where names, types and terms are kept, by numbers. The kernel and all that goes into terms are written over any store, and proved
 // from what this trait promises.
+#![tactic(auto)]
+
 ghost use Rattle.std.specs.Prelude.{◌≡◌, ℕ, ◌+◌, ◌≤◌, true, List, [], length};
 ghost use Rattle.std.proofs.Math.Option.{some};
 ghost use Rattle.hol.specs.Base.{Word};

@@ -1,4 +1,6 @@
 // Code over any store, proved from what the trait promises alone: it builds, compares, and gives back what it built.
+#![tactic(auto)]
+
 ghost use Rattle.std.specs.Prelude.{◌≡◌};
 ghost use Rattle.store.specs.State.{Stays};
 ghost use Rattle.trial.specs.Trials.{AppliedSays, TwiceSays, TrialSays};

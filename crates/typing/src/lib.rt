@@ -1,4 +1,6 @@
 // Which type a term has in a theory, over any store: by loops over lent words.
+#![tactic(auto)]
+
 mod count;
 mod first;
 pub mod form;

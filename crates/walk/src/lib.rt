@@ -1,4 +1,6 @@
 // What reads types and terms of any store. Each function gives what the definition of the same name gives of what the numbers stand for.
+#![tactic(auto)]
+
 pub mod free;
 pub mod listed;
 pub mod look;

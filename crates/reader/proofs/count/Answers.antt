@@ -9,7 +9,7 @@ loop-byte-init c = rw c.new-reader.ensures (begins c.args.text.now)
 pub loop-byte-preserved : goal.loop-byte-preserved
 loop-byte-preserved c =
     goes_on c.args.text.now c.loop-byte.byte-index c.loop-byte.reader c.loop-byte.invariant (omega arith)
-    c.step.new.self c.in-ok-step.ensures
+    c.step.new.self c.in_ok-step.ensures
 
 pub returns-in-err-step : goal.returns-in-err-step
 returns-in-err-step c =

@@ -2,7 +2,7 @@
 use Rattle.std.proofs.Common.{take, arith, length-take}
 use Rattle.reader.proofs.Feeds.{lined_feed, lined_other, lined_end}
 use Rattle.reader.proofs.line.line_of.Goals as goal
-use Rattle.reader.proofs.line.line_of.Goals.{then-byte-eq-LINE-FEED, else-byte-eq-LINE-FEED}
+use Rattle.reader.proofs.line.line_of.Goals.{then-byte-eq-LINE_FEED, else-byte-eq-LINE_FEED}
 
 pub loop-byte-init : goal.loop-byte-init
 loop-byte-init c = record { rest = omega arith; few = omega arith }
@@ -12,19 +12,19 @@ overflow-add-line c = omega (arith, length-take c.start-of.result c.args.text.no
 
 pub loop-byte-preserved : goal.loop-byte-preserved
 loop-byte-preserved c =
-    let passed = take c.start-of.result c.args.text.now in
+    let passed = take c.start_of.result c.args.text.now in
     let l = c.loop-byte in
     elim c.if-byte-eq-LINE-FEED.branch [
-      | then-byte-eq-LINE-FEED w ↦
+      | then-byte-eq-LINE_FEED w ↦
           simp w.line-is
           (lined_feed passed l.byte-index l.line l.invariant c.loop-byte-test.true w.if-byte-eq-LINE-FEED.true)
-      | else-byte-eq-LINE-FEED w ↦
+      | else-byte-eq-LINE_FEED w ↦
           simp w.line-is
           (lined_other passed l.byte-index l.line l.invariant c.loop-byte-test.true w.if-byte-eq-LINE-FEED.false)
     ]
 
 pub returns : goal.returns
 returns c =
-    let passed = take c.start-of.result c.args.text.now in
+    let passed = take c.start_of.result c.args.text.now in
     let l = c.loop-byte in
-    (c.start-of.result, c.start-of.ensures.says, lined_end passed l.byte-index l.line l.invariant c.loop-byte-test.false)
+    (c.start_of.result, c.start_of.ensures.says, lined_end passed l.byte-index l.line l.invariant c.loop-byte-test.false)

@@ -16,11 +16,11 @@ loop-tokens-preserved c =
     let on = c.in-Some.ensures in
     elim c.if-depth-eq0.branch [
       | then-depth-eq0+else-begun-n w ↦
-          simp (c.depth-behind-depth.ensures, w.begun-is)
+          simp (c.depth_behind-depth.ensures, w.begun-is)
           (counting_out text c.args.n l.tokens l.depth l.begun l.invariant c.in-Some.token c.next.new.self on
           w.if-depth-eq0.true w.if-begun-n.false)
       | else-depth-eq0 w ↦
-          simp (c.depth-behind-depth.ensures, w.begun-is)
+          simp (c.depth_behind-depth.ensures, w.begun-is)
           (counting_in text c.args.n l.tokens l.depth l.begun l.invariant c.in-Some.token c.next.new.self on
           w.if-depth-eq0.false)
     ]

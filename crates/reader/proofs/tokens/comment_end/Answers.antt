@@ -9,7 +9,7 @@ loop-end-init c = record { ahead = refl; further = omega arith; within = c.requi
 pub loop-end-preserved : goal.loop-end-preserved
 loop-end-preserved c =
     comment_on c.args.text.now c.args.at c.loop-end.end c.loop-end.invariant c.loop-end-test.true
-    c.if-text-end-eq-LINE-FEED.false
+    c.if-text-end-eq-LINE_FEED.false
 
 pub returns-then-text-end-eq-LINE-FEED : goal.returns-then-text-end-eq-LINE-FEED
 returns-then-text-end-eq-LINE-FEED c =

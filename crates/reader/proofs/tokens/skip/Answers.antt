@@ -10,5 +10,5 @@ loop-start-preserved-in-Blank c =
 
 pub loop-start-preserved : goal.loop-start-preserved
 loop-start-preserved c =
-    skipped_comment c.args.text.now c.args.at c.loop-start.start c.comment-end-start.result c.loop-start.invariant
-    c.loop-start-test.true (sym c.in-Comment.ensures) c.comment-end-start.ensures
+    skipped_comment c.args.text.now c.args.at c.loop-start.start c.comment_end-start.result c.loop-start.invariant
+    c.loop-start-test.true (sym c.in-Comment.ensures) c.comment_end-start.ensures

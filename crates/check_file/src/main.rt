@@ -1,4 +1,6 @@
 // check FILE: prints how many commands stand in a file, or that its brackets do not match.
+#![tactic(auto)]
+
 mod task;
 mod verdict;
 

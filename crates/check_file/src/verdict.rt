@@ -1,6 +1,6 @@
 // The line that is printed for a file.
 ghost use Rattle.std.specs.Prelude.{Some};
-ghost use Rattle.check.specs.Lines.{line};
+ghost use Rattle.check_file.specs.Lines.{line};
 
 use reader::Fault;
 use std::fmt;
