@@ -8,7 +8,7 @@ ghost use Rattle.store.specs.State.{Contents, Keeps};
 ghost use Rattle.store.specs.Builds.{Made};
 ghost use Rattle.stack.specs.Frames.{held, capacity, Within, Same, Restores};
 ghost use Rattle.stack.specs.Answers.{Answers};
-ghost use Rattle.hyps.specs.Sifting.{put, extra, poured, Stand, «IsTerm», «IsList», Lists};
+ghost use Rattle.hyps.specs.Sifting.{put, extra, poured, Stand, IsTerm, IsList, Lists};
 
 use super::members::contains;
 use super::sift::spread;
@@ -38,7 +38,7 @@ pub trait TermMap<S: Store> {
             → Answers
             ((length words.old - top.old < 4 * nodes_tm u)
             ⊎ ((S.Store.state store.old).left < nodes_tm (f u)))
-            (Made (nodes_tm (f u)) (S.Store.state store.old) (S.Store.state store.new) («IsTerm» (f u)))
+            (Made (nodes_tm (f u)) (S.Store.state store.old) (S.Store.state store.new) (IsTerm (f u)))
             result };
 
     // It is the same where more is kept. (So it is once more where all is given back up to a mark: then what was kept is kept.)
@@ -55,18 +55,18 @@ fn put_image<S: Store, M: TermMap<S>>(
     so_far: u64,
 ) -> Result<u64, NoRoom>
     requires stack { top.old ≤ length words.old }
-    requires map { (f : Tm → Tm) × does map.now (state store.old).contents f }
-    requires term { (u : Tm) × ((state store.old).contents.term t ≡ some u) }
-    requires list { (vs : List Tm) × ((state store.old).contents.terms so_far ≡ some vs) }
+    requires map { (f : Tm → Tm) × M.does map.now (S.state store.old).contents f }
+    requires term { (u : Tm) × ((S.state store.old).contents.term t ≡ some u) }
+    requires list { (vs : List Tm) × ((S.state store.old).contents.terms so_far ≡ some vs) }
     ensures stack { Restores words.old top.old words.new top.new }
     ensures cases { (f : Tm → Tm) (u : Tm) (vs : List Tm)
-        → does map.now (state store.old).contents f
-        → (state store.old).contents.term t ≡ some u
-        → (state store.old).contents.terms so_far ≡ some vs
+        → M.does map.now (S.state store.old).contents f
+        → (S.state store.old).contents.term t ≡ some u
+        → (S.state store.old).contents.terms so_far ≡ some vs
         → Answers
         ((length words.old - top.old < 4 * nodes_tm u)
-        ⊎ ((state store.old).left < 1 + nodes_tm (f u)))
-        (Made (extra in_hyps (f u) vs) (state store.old) (state store.new) («IsList» (put in_hyps (f u) vs)))
+        ⊎ ((S.state store.old).left < 1 + nodes_tm (f u)))
+        (Made (extra in_hyps (f u) vs) (S.state store.old) (S.state store.new) (IsList (put in_hyps (f u) vs)))
         result }
 {
     let mark = store.mark();
@@ -89,21 +89,21 @@ fn gather_images<S: Store, M: TermMap<S>>(
     start: u64,
 ) -> Result<u64, NoRoom>
     requires within { Within f.old }
-    requires map { (h : Tm → Tm) × does map.now (state store.old).contents h }
-    requires stand { (us : List Tm) × Stand (state store.old).contents (held f.old) us }
-    requires list { (vs : List Tm) × ((state store.old).contents.terms start ≡ some vs) }
+    requires map { (h : Tm → Tm) × M.does map.now (S.state store.old).contents h }
+    requires stand { (us : List Tm) × Stand (S.state store.old).contents (held f.old) us }
+    requires list { (vs : List Tm) × ((S.state store.old).contents.terms start ≡ some vs) }
     ensures within { Within f.new }
     ensures same { Same f.old f.new }
     ensures top_name { f.new.top.ghost_name ≡ f.old.top.ghost_name }
     ensures words_name { f.new.words.ghost_name ≡ f.old.words.ghost_name }
     ensures cases { (h : Tm → Tm) (us vs : List Tm)
-        → does map.now (state store.old).contents h
-        → Stand (state store.old).contents (held f.old) us
-        → (state store.old).contents.terms start ≡ some vs
+        → M.does map.now (S.state store.old).contents h
+        → Stand (S.state store.old).contents (held f.old) us
+        → (S.state store.old).contents.terms start ≡ some vs
         → Lists
         ((capacity f.old < 5 * nodes_tms us)
-        ⊎ ((state store.old).left < 2 * nodes_tms (poured in_hyps h us vs)))
-        (poured in_hyps h us vs) (state store.old) (state store.new) result }
+        ⊎ ((S.state store.old).left < 2 * nodes_tms (poured in_hyps h us vs)))
+        (poured in_hyps h us vs) (S.state store.old) (S.state store.new) result }
 {
     let mut list = start;
     while let Some(t) = f.pop() {
@@ -123,16 +123,16 @@ pub fn map_dedup<S: Store, M: TermMap<S>>(
     hs: u64,
 ) -> Result<u64, NoRoom>
     requires stack { top.old ≤ length words.old }
-    requires map { (f : Tm → Tm) × does map.now (state store.old).contents f }
-    requires list { (us : List Tm) × ((state store.old).contents.terms hs ≡ some us) }
+    requires map { (f : Tm → Tm) × M.does map.now (S.state store.old).contents f }
+    requires list { (us : List Tm) × ((S.state store.old).contents.terms hs ≡ some us) }
     ensures stack { Restores words.old top.old words.new top.new }
     ensures cases { (f : Tm → Tm) (us : List Tm)
-        → does map.now (state store.old).contents f
-        → (state store.old).contents.terms hs ≡ some us
+        → M.does map.now (S.state store.old).contents f
+        → (S.state store.old).contents.terms hs ≡ some us
         → Lists
         ((length words.old - top.old < 5 * nodes_tms us)
-        ⊎ ((state store.old).left < 2 * nodes_tms (dedup (mapped f us))))
-        (dedup (mapped f us)) (state store.old) (state store.new) result }
+        ⊎ ((S.state store.old).left < 2 * nodes_tms (dedup (mapped f us))))
+        (dedup (mapped f us)) (S.state store.old) (S.state store.new) result }
 {
     let empty = store.empty();
     let mut f = Frame::new(words, top);

@@ -30,16 +30,16 @@ pub fn union<S: Store>(
     gs: u64,
 ) -> Result<u64, NoRoom>
     requires stack { top.old ≤ length words.old }
-    requires first { (us : List Tm) × ((state store.old).contents.terms hs ≡ some us) }
-    requires second { (vs : List Tm) × ((state store.old).contents.terms gs ≡ some vs) }
+    requires first { (us : List Tm) × ((S.state store.old).contents.terms hs ≡ some us) }
+    requires second { (vs : List Tm) × ((S.state store.old).contents.terms gs ≡ some vs) }
     ensures stack { Restores words.old top.old words.new top.new }
     ensures cases { (us vs : List Tm)
-        → (state store.old).contents.terms hs ≡ some us
-        → (state store.old).contents.terms gs ≡ some vs
+        → (S.state store.old).contents.terms hs ≡ some us
+        → (S.state store.old).contents.terms gs ≡ some vs
         → Lists
         ((length words.old - top.old < nodes_tms us)
-        ⊎ ((state store.old).left < nodes_tms (kernel.union us vs)))
-        (kernel.union us vs) (state store.old) (state store.new) result }
+        ⊎ ((S.state store.old).left < nodes_tms (kernel.union us vs)))
+        (kernel.union us vs) (S.state store.old) (S.state store.new) result }
 {
     sift(store, words, top, LeftOut::In(gs), hs, gs)
 }
@@ -53,16 +53,16 @@ pub fn remove<S: Store>(
     hs: u64,
 ) -> Result<u64, NoRoom>
     requires stack { top.old ≤ length words.old }
-    requires term { (u : Tm) × ((state store.old).contents.term t ≡ some u) }
-    requires list { (us : List Tm) × ((state store.old).contents.terms hs ≡ some us) }
+    requires term { (u : Tm) × ((S.state store.old).contents.term t ≡ some u) }
+    requires list { (us : List Tm) × ((S.state store.old).contents.terms hs ≡ some us) }
     ensures stack { Restores words.old top.old words.new top.new }
     ensures cases { (u : Tm) (us : List Tm)
-        → (state store.old).contents.term t ≡ some u
-        → (state store.old).contents.terms hs ≡ some us
+        → (S.state store.old).contents.term t ≡ some u
+        → (S.state store.old).contents.terms hs ≡ some us
         → Lists
         ((length words.old - top.old < nodes_tms us)
-        ⊎ ((state store.old).left < nodes_tms (kernel.remove u us)))
-        (kernel.remove u us) (state store.old) (state store.new) result }
+        ⊎ ((S.state store.old).left < nodes_tms (kernel.remove u us)))
+        (kernel.remove u us) (S.state store.old) (S.state store.new) result }
 {
     let empty = store.empty();
     sift(store, words, top, LeftOut::Same(t), hs, empty)
@@ -78,18 +78,18 @@ pub fn union_removing<S: Store>(
     gs: u64,
 ) -> Result<u64, NoRoom>
     requires stack { top.old ≤ length words.old }
-    requires term { (u : Tm) × ((state store.old).contents.term t ≡ some u) }
-    requires first { (us : List Tm) × ((state store.old).contents.terms hs ≡ some us) }
-    requires second { (vs : List Tm) × ((state store.old).contents.terms gs ≡ some vs) }
+    requires term { (u : Tm) × ((S.state store.old).contents.term t ≡ some u) }
+    requires first { (us : List Tm) × ((S.state store.old).contents.terms hs ≡ some us) }
+    requires second { (vs : List Tm) × ((S.state store.old).contents.terms gs ≡ some vs) }
     ensures stack { Restores words.old top.old words.new top.new }
     ensures cases { (u : Tm) (us vs : List Tm)
-        → (state store.old).contents.term t ≡ some u
-        → (state store.old).contents.terms hs ≡ some us
-        → (state store.old).contents.terms gs ≡ some vs
+        → (S.state store.old).contents.term t ≡ some u
+        → (S.state store.old).contents.terms hs ≡ some us
+        → (S.state store.old).contents.terms gs ≡ some vs
         → Lists
         ((length words.old - top.old < nodes_tms us)
-        ⊎ ((state store.old).left < nodes_tms (kernel.union (kernel.remove u us) vs)))
-        (kernel.union (kernel.remove u us) vs) (state store.old) (state store.new) result }
+        ⊎ ((S.state store.old).left < nodes_tms (kernel.union (kernel.remove u us) vs)))
+        (kernel.union (kernel.remove u us) vs) (S.state store.old) (S.state store.new) result }
 {
     sift(store, words, top, LeftOut::SameOrIn(t, gs), hs, gs)
 }
@@ -102,14 +102,14 @@ pub fn dedup<S: Store>(
     hs: u64,
 ) -> Result<u64, NoRoom>
     requires stack { top.old ≤ length words.old }
-    requires list { (us : List Tm) × ((state store.old).contents.terms hs ≡ some us) }
+    requires list { (us : List Tm) × ((S.state store.old).contents.terms hs ≡ some us) }
     ensures stack { Restores words.old top.old words.new top.new }
     ensures cases { (us : List Tm)
-        → (state store.old).contents.terms hs ≡ some us
+        → (S.state store.old).contents.terms hs ≡ some us
         → Lists
         ((length words.old - top.old < nodes_tms us)
-        ⊎ ((state store.old).left < nodes_tms (kernel.dedup us)))
-        (kernel.dedup us) (state store.old) (state store.new) result }
+        ⊎ ((S.state store.old).left < nodes_tms (kernel.dedup us)))
+        (kernel.dedup us) (S.state store.old) (S.state store.new) result }
 {
     let empty = store.empty();
     sift(store, words, top, LeftOut::Repeated, hs, empty)

@@ -11,10 +11,10 @@ use store::view::ListView;
 
 // How a list of terms is made.
 pub fn view<S: Store>(store: &S, list: u64) -> ListView
-    requires stands { (us : List Tm) × ((state store.now).contents.terms list ≡ some us) }
+    requires stands { (us : List Tm) × ((S.state store.now).contents.terms list ≡ some us) }
     ensures { (us : List Tm)
-        → (state store.now).contents.terms list ≡ some us
-        → TermsSays (state store.now).contents us (Some result) }
+        → (S.state store.now).contents.terms list ≡ some us
+        → TermsSays (S.state store.now).contents us (Some result) }
 {
     match store.view_terms(list) {
         Some(v) => v,
@@ -24,12 +24,12 @@ pub fn view<S: Store>(store: &S, list: u64) -> ListView
 
 // Whether the list `hs` has the term `t`.
 pub fn contains<S: Store>(store: &mut S, t: u64, hs: u64) -> bool
-    requires term { (u : Tm) × ((state store.old).contents.term t ≡ some u) }
-    requires list { (us : List Tm) × ((state store.old).contents.terms hs ≡ some us) }
-    ensures stays { Stays (state store.old) (state store.new) }
+    requires term { (u : Tm) × ((S.state store.old).contents.term t ≡ some u) }
+    requires list { (us : List Tm) × ((S.state store.old).contents.terms hs ≡ some us) }
+    ensures stays { Stays (S.state store.old) (S.state store.new) }
     ensures made { (u : Tm) (us : List Tm)
-        → (state store.old).contents.term t ≡ some u
-        → (state store.old).contents.terms hs ≡ some us
+        → (S.state store.old).contents.term t ≡ some u
+        → (S.state store.old).contents.terms hs ≡ some us
         → result ≡ in_hyps u us }
 {
     let mut rest = hs;

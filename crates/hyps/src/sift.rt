@@ -7,7 +7,7 @@ ghost use Rattle.store.specs.State.{Stays};
 ghost use Rattle.store.specs.Builds.{Made};
 ghost use Rattle.stack.specs.Frames.{held, Within, Same, Restores};
 ghost use Rattle.stack.specs.Answers.{Answers};
-ghost use Rattle.hyps.specs.Sifting.{put, extra, sifted, poured, Stand, Spreads, «IsList», Lists};
+ghost use Rattle.hyps.specs.Sifting.{put, extra, sifted, poured, Stand, Spreads, IsList, Lists};
 ghost use Rattle.hyps.specs.Leaving.{Leaves};
 
 use super::left_out::LeftOut;
@@ -18,14 +18,14 @@ use store::view::ListView;
 
 // Whether the term `t` is left out where it would be put before the list `so_far`.
 fn leaves_out<S: Store>(store: &mut S, left_out: LeftOut, t: u64, so_far: u64) -> bool
-    requires test { (p : Tm → List Tm → Bool) × Leaves (state store.old).contents left_out p }
-    requires term { (u : Tm) × ((state store.old).contents.term t ≡ some u) }
-    requires list { (vs : List Tm) × ((state store.old).contents.terms so_far ≡ some vs) }
-    ensures stays { Stays (state store.old) (state store.new) }
+    requires test { (p : Tm → List Tm → Bool) × Leaves (S.state store.old).contents left_out p }
+    requires term { (u : Tm) × ((S.state store.old).contents.term t ≡ some u) }
+    requires list { (vs : List Tm) × ((S.state store.old).contents.terms so_far ≡ some vs) }
+    ensures stays { Stays (S.state store.old) (S.state store.new) }
     ensures made { (p : Tm → List Tm → Bool) (u : Tm) (vs : List Tm)
-        → Leaves (state store.old).contents left_out p
-        → (state store.old).contents.term t ≡ some u
-        → (state store.old).contents.terms so_far ≡ some vs
+        → Leaves (S.state store.old).contents left_out p
+        → (S.state store.old).contents.term t ≡ some u
+        → (S.state store.old).contents.terms so_far ≡ some vs
         → result ≡ p u vs }
 {
     match left_out {
@@ -43,16 +43,16 @@ fn put_before<S: Store>(
     t: u64,
     so_far: u64,
 ) -> Result<u64, NoRoom>
-    requires test { (p : Tm → List Tm → Bool) × Leaves (state store.old).contents left_out p }
-    requires term { (u : Tm) × ((state store.old).contents.term t ≡ some u) }
-    requires list { (vs : List Tm) × ((state store.old).contents.terms so_far ≡ some vs) }
+    requires test { (p : Tm → List Tm → Bool) × Leaves (S.state store.old).contents left_out p }
+    requires term { (u : Tm) × ((S.state store.old).contents.term t ≡ some u) }
+    requires list { (vs : List Tm) × ((S.state store.old).contents.terms so_far ≡ some vs) }
     ensures { (p : Tm → List Tm → Bool) (u : Tm) (vs : List Tm)
-        → Leaves (state store.old).contents left_out p
-        → (state store.old).contents.term t ≡ some u
-        → (state store.old).contents.terms so_far ≡ some vs
+        → Leaves (S.state store.old).contents left_out p
+        → (S.state store.old).contents.term t ≡ some u
+        → (S.state store.old).contents.terms so_far ≡ some vs
         → Answers
-        ((state store.old).left < extra p u vs)
-        (Made (extra p u vs) (state store.old) (state store.new) («IsList» (put p u vs))) result }
+        ((S.state store.old).left < extra p u vs)
+        (Made (extra p u vs) (S.state store.old) (S.state store.new) (IsList (put p u vs))) result }
 {
     if leaves_out(store, left_out, t, so_far) {
         return Ok(so_far);
@@ -67,14 +67,14 @@ fn put_before<S: Store>(
 pub fn spread<S: Store>(store: &S, f: &mut Frame<'_>, hs: u64) -> bool
     requires within { Within f.old }
     requires empty { held f.old ≡ [] }
-    requires list { (us : List Tm) × ((state store.now).contents.terms hs ≡ some us) }
+    requires list { (us : List Tm) × ((S.state store.now).contents.terms hs ≡ some us) }
     ensures within { Within f.new }
     ensures same { Same f.old f.new }
     ensures top_name { f.new.top.ghost_name ≡ f.old.top.ghost_name }
     ensures words_name { f.new.words.ghost_name ≡ f.old.words.ghost_name }
     ensures cases { (us : List Tm)
-        → (state store.now).contents.terms hs ≡ some us
-        → Spreads (state store.now).contents us f.old f.new result }
+        → (S.state store.now).contents.terms hs ≡ some us
+        → Spreads (S.state store.now).contents us f.old f.new result }
 {
     let mut rest = hs;
     while let ListView::Cons(h, more) = view(store, rest) {
@@ -94,20 +94,20 @@ fn gather<S: Store>(
     start: u64,
 ) -> Result<u64, NoRoom>
     requires within { Within f.old }
-    requires test { (p : Tm → List Tm → Bool) × Leaves (state store.old).contents left_out p }
-    requires stand { (us : List Tm) × Stand (state store.old).contents (held f.old) us }
-    requires list { (vs : List Tm) × ((state store.old).contents.terms start ≡ some vs) }
+    requires test { (p : Tm → List Tm → Bool) × Leaves (S.state store.old).contents left_out p }
+    requires stand { (us : List Tm) × Stand (S.state store.old).contents (held f.old) us }
+    requires list { (vs : List Tm) × ((S.state store.old).contents.terms start ≡ some vs) }
     ensures within { Within f.new }
     ensures same { Same f.old f.new }
     ensures top_name { f.new.top.ghost_name ≡ f.old.top.ghost_name }
     ensures words_name { f.new.words.ghost_name ≡ f.old.words.ghost_name }
     ensures cases { (p : Tm → List Tm → Bool) (us vs : List Tm)
-        → Leaves (state store.old).contents left_out p
-        → Stand (state store.old).contents (held f.old) us
-        → (state store.old).contents.terms start ≡ some vs
+        → Leaves (S.state store.old).contents left_out p
+        → Stand (S.state store.old).contents (held f.old) us
+        → (S.state store.old).contents.terms start ≡ some vs
         → Lists
-        ((state store.old).left < nodes_tms (poured p (λ u. u) us vs))
-        (poured p (λ u. u) us vs) (state store.old) (state store.new) result }
+        ((S.state store.old).left < nodes_tms (poured p (λ u. u) us vs))
+        (poured p (λ u. u) us vs) (S.state store.old) (S.state store.new) result }
 {
     let mut list = start;
     while let Some(t) = f.pop() {
@@ -126,18 +126,18 @@ pub fn sift<S: Store>(
     start: u64,
 ) -> Result<u64, NoRoom>
     requires stack { top.old ≤ length words.old }
-    requires test { (p : Tm → List Tm → Bool) × Leaves (state store.old).contents left_out p }
-    requires terms { (us : List Tm) × ((state store.old).contents.terms hs ≡ some us) }
-    requires list { (vs : List Tm) × ((state store.old).contents.terms start ≡ some vs) }
+    requires test { (p : Tm → List Tm → Bool) × Leaves (S.state store.old).contents left_out p }
+    requires terms { (us : List Tm) × ((S.state store.old).contents.terms hs ≡ some us) }
+    requires list { (vs : List Tm) × ((S.state store.old).contents.terms start ≡ some vs) }
     ensures stack { Restores words.old top.old words.new top.new }
     ensures cases { (p : Tm → List Tm → Bool) (us vs : List Tm)
-        → Leaves (state store.old).contents left_out p
-        → (state store.old).contents.terms hs ≡ some us
-        → (state store.old).contents.terms start ≡ some vs
+        → Leaves (S.state store.old).contents left_out p
+        → (S.state store.old).contents.terms hs ≡ some us
+        → (S.state store.old).contents.terms start ≡ some vs
         → Lists
         ((length words.old - top.old < nodes_tms us)
-        ⊎ ((state store.old).left < nodes_tms (sifted p (λ u. u) us vs)))
-        (sifted p (λ u. u) us vs) (state store.old) (state store.new) result }
+        ⊎ ((S.state store.old).left < nodes_tms (sifted p (λ u. u) us vs)))
+        (sifted p (λ u. u) us vs) (S.state store.old) (S.state store.new) result }
 {
     let mut f = Frame::new(words, top);
     if !spread(store, &mut f, hs) {

@@ -42,13 +42,13 @@ fn may_bind<S: Store>(
     hs: u64,
 ) -> Option<()>
     requires clear { work.old.full ≡ false }
-    requires theory { (th : Theory) × Knows theory.now (state store.old).contents th }
-    requires name { (w : Word) × ((state store.old).contents.word x ≡ some w) }
-    requires typ { (b : Ty) × ((state store.old).contents.typ a ≡ some b) }
-    requires list { (us : List Tm) × ((state store.old).contents.terms hs ≡ some us) }
+    requires theory { (th : Theory) × Knows theory.now (S.state store.old).contents th }
+    requires name { (w : Word) × ((S.state store.old).contents.word x ≡ some w) }
+    requires typ { (b : Ty) × ((S.state store.old).contents.typ a ≡ some b) }
+    requires list { (us : List Tm) × ((S.state store.old).contents.terms hs ≡ some us) }
     ensures space { space work.new ≡ space work.old }
-    ensures stays { Stays (state store.old) (state store.new) }
-    ensures cases { (th : Theory) (w : Word) (b : Ty) (us : List Tm) → Knows theory.now (state store.old).contents th → (state store.old).contents.word x ≡ some w → (state store.old).contents.typ a ≡ some b → (state store.old).contents.terms hs ≡ some us → Tests (Lacks (space work.old) (max (nodes_ty b) (nodes_tms us)) (state store.old).left 0) (ok_ty th b && not (any (free_in w b) us)) work.new.full result }
+    ensures stays { Stays (S.state store.old) (S.state store.new) }
+    ensures cases { (th : Theory) (w : Word) (b : Ty) (us : List Tm) → Knows theory.now (S.state store.old).contents th → (S.state store.old).contents.word x ≡ some w → (S.state store.old).contents.typ a ≡ some b → (S.state store.old).contents.terms hs ≡ some us → Tests (Lacks (space work.old) (max (nodes_ty b) (nodes_tms us)) (S.state store.old).left 0) (ok_ty th b && not (any (free_in w b) us)) work.new.full result }
 {
     ok_in(store, work, theory, a)?;
     free_in_none(store, work, x, a, hs)
@@ -64,12 +64,12 @@ fn bound<S: Store>(
     sides: Equation,
 ) -> Option<u64>
     requires clear { work.old.full ≡ false }
-    requires ground { Grounded (state store.old).contents ground }
-    requires name { (w : Word) × ((state store.old).contents.word x ≡ some w) }
-    requires typ { (b : Ty) × ((state store.old).contents.typ a ≡ some b) }
-    requires sides { (l : Sides) × IsEquation (state store.old).contents l sides }
+    requires ground { Grounded (S.state store.old).contents ground }
+    requires name { (w : Word) × ((S.state store.old).contents.word x ≡ some w) }
+    requires typ { (b : Ty) × ((S.state store.old).contents.typ a ≡ some b) }
+    requires sides { (l : Sides) × IsEquation (S.state store.old).contents l sides }
     ensures space { space work.new ≡ space work.old }
-    ensures cases { (w : Word) (b : Ty) (l : Sides) → (state store.old).contents.word x ≡ some w → (state store.old).contents.typ a ≡ some b → IsEquation (state store.old).contents l sides → Does (Lacks (space work.old) (max (nodes_tm l.left) (nodes_tm l.right)) (state store.old).left (nodes_tm (equated (fun b l.ty) (over w b l.left) (over w b l.right)))) (Made (nodes_tm (equated (fun b l.ty) (over w b l.left) (over w b l.right))) (state store.old) (state store.new) (λ c n. c.term n ≡ some (equated (fun b l.ty) (over w b l.left) (over w b l.right)))) work.new.full result }
+    ensures cases { (w : Word) (b : Ty) (l : Sides) → (S.state store.old).contents.word x ≡ some w → (S.state store.old).contents.typ a ≡ some b → IsEquation (S.state store.old).contents l sides → Does (Lacks (space work.old) (max (nodes_tm l.left) (nodes_tm l.right)) (S.state store.old).left (nodes_tm (equated (fun b l.ty) (over w b l.left) (over w b l.right)))) (Made (nodes_tm (equated (fun b l.ty) (over w b l.left) (over w b l.right))) (S.state store.old) (S.state store.new) (λ c n. c.term n ≡ some (equated (fun b l.ty) (over w b l.left) (over w b l.right)))) work.new.full result }
 {
     let left = lambda_over(store, work, x, a, sides.left)?;
     let right = lambda_over(store, work, x, a, sides.right)?;
@@ -90,13 +90,13 @@ pub fn lam<S: Store>(
     premise: &Sequent,
 ) -> Option<Sequent>
     requires clear { work.old.full ≡ false }
-    requires theory { (th : Theory) × Knows theory.now (state store.old).contents th }
-    requires ground { Grounded (state store.old).contents ground }
-    requires name { (w : Word) × NameIs (state store.old).contents x w }
-    requires typ { (b : Ty) × TypeIs (state store.old).contents a b }
-    requires premise { (p : Seq) × IsSeq (state store.old).contents p premise.now }
+    requires theory { (th : Theory) × Knows theory.now (S.state store.old).contents th }
+    requires ground { Grounded (S.state store.old).contents ground }
+    requires name { (w : Word) × NameIs (S.state store.old).contents x w }
+    requires typ { (b : Ty) × TypeIs (S.state store.old).contents a b }
+    requires premise { (p : Seq) × IsSeq (S.state store.old).contents p premise.now }
     ensures space { space work.new ≡ space work.old }
-    ensures cases { (th : Theory) (w : Word) (b : Ty) (p : Seq) → Knows theory.now (state store.old).contents th → NameIs (state store.old).contents x w → TypeIs (state store.old).contents a b → IsSeq (state store.old).contents p premise.now → Gives th (p ∷ []) (space work.old) (max (nodes_ty b) (nodes_seq p)) 0 (state store.old) (state store.new) (k_lam th w b p) work.new.full result }
+    ensures cases { (th : Theory) (w : Word) (b : Ty) (p : Seq) → Knows theory.now (S.state store.old).contents th → NameIs (S.state store.old).contents x w → TypeIs (S.state store.old).contents a b → IsSeq (S.state store.old).contents p premise.now → Gives th (p ∷ []) (space work.old) (max (nodes_ty b) (nodes_seq p)) 0 (S.state store.old) (S.state store.new) (k_lam th w b p) work.new.full result }
 {
     let hyps = premise.hyps;
     let sides = equation(store, premise.concl)?;
@@ -107,8 +107,8 @@ pub fn lam<S: Store>(
 
 // A λ applied to an argument.
 fn redex<S: Store>(store: &S, t: u64) -> Option<Redex>
-    requires { (u : Tm) × ((state store.now).contents.term t ≡ some u) }
-    ensures { (u : Tm) → (state store.now).contents.term t ≡ some u → Like (IsRedex (state store.now).contents) (redex_of u) result }
+    requires { (u : Tm) × ((S.state store.now).contents.term t ≡ some u) }
+    ensures { (u : Tm) → (S.state store.now).contents.term t ≡ some u → Like (IsRedex (S.state store.now).contents) (redex_of u) result }
 {
     let whole = application(store, t)?;
     let function = abstraction(store, whole.func)?;
@@ -128,11 +128,11 @@ pub fn beta<S: Store>(
     t: TermId,
 ) -> Option<Sequent>
     requires clear { work.old.full ≡ false }
-    requires theory { (th : Theory) × Knows theory.now (state store.old).contents th }
-    requires ground { Grounded (state store.old).contents ground }
-    requires term { (u : Tm) × TermIs (state store.old).contents t u }
+    requires theory { (th : Theory) × Knows theory.now (S.state store.old).contents th }
+    requires ground { Grounded (S.state store.old).contents ground }
+    requires term { (u : Tm) × TermIs (S.state store.old).contents t u }
     ensures space { space work.new ≡ space work.old }
-    ensures cases { (th : Theory) (u : Tm) → Knows theory.now (state store.old).contents th → TermIs (state store.old).contents t u → Gives th [] (space work.old) (nodes_tm u + widest th) (types_built th [] u) (state store.old) (state store.new) (k_beta th u) work.new.full result }
+    ensures cases { (th : Theory) (u : Tm) → Knows theory.now (S.state store.old).contents th → TermIs (S.state store.old).contents t u → Gives th [] (space work.old) (nodes_tm u + widest th) (types_built th [] u) (S.state store.old) (S.state store.new) (k_beta th u) work.new.full result }
 {
     let hyps = store.empty();
     let parts = redex(store, t.0)?;

@@ -37,11 +37,11 @@ pub fn refl<S: Store>(
     t: TermId,
 ) -> Option<Sequent>
     requires clear { work.old.full ≡ false }
-    requires theory { (th : Theory) × Knows theory.now (state store.old).contents th }
-    requires ground { Grounded (state store.old).contents ground }
-    requires term { (u : Tm) × TermIs (state store.old).contents t u }
+    requires theory { (th : Theory) × Knows theory.now (S.state store.old).contents th }
+    requires ground { Grounded (S.state store.old).contents ground }
+    requires term { (u : Tm) × TermIs (S.state store.old).contents t u }
     ensures space { space work.new ≡ space work.old }
-    ensures cases { (th : Theory) (u : Tm) → Knows theory.now (state store.old).contents th → TermIs (state store.old).contents t u → Gives th [] (space work.old) (nodes_tm u + widest th) (types_built th [] u) (state store.old) (state store.new) (k_refl th u) work.new.full result }
+    ensures cases { (th : Theory) (u : Tm) → Knows theory.now (S.state store.old).contents th → TermIs (S.state store.old).contents t u → Gives th [] (space work.old) (nodes_tm u + widest th) (types_built th [] u) (S.state store.old) (S.state store.new) (k_refl th u) work.new.full result }
 {
     let hyps = store.empty();
     let a = type_in(store, work, theory, ground, t.0)?;
@@ -51,8 +51,8 @@ pub fn refl<S: Store>(
 
 // Whether the right side of the first equation is the left side of the second, at the same type.
 fn meets<S: Store>(store: &mut S, first: Equation, second: Equation) -> bool
-    ensures stays { Stays (state store.old) (state store.new) }
-    ensures same { (p q : Sides) → IsEquation (state store.old).contents p first → IsEquation (state store.old).contents q second → result ≡ (same_ty p.ty q.ty && same_tm p.right q.left) }
+    ensures stays { Stays (S.state store.old) (S.state store.new) }
+    ensures same { (p q : Sides) → IsEquation (S.state store.old).contents p first → IsEquation (S.state store.old).contents q second → result ≡ (same_ty p.ty q.ty && same_tm p.right q.left) }
 {
     if store.same_type(first.ty, second.ty) {
         store.same(first.right, second.left)
@@ -72,11 +72,11 @@ pub fn trans<S: Store>(
     second: &Sequent,
 ) -> Option<Sequent>
     requires clear { work.old.full ≡ false }
-    requires ground { Grounded (state store.old).contents ground }
-    requires first { (p : Seq) × IsSeq (state store.old).contents p first.now }
-    requires second { (q : Seq) × IsSeq (state store.old).contents q second.now }
+    requires ground { Grounded (S.state store.old).contents ground }
+    requires first { (p : Seq) × IsSeq (S.state store.old).contents p first.now }
+    requires second { (q : Seq) × IsSeq (S.state store.old).contents q second.now }
     ensures space { space work.new ≡ space work.old }
-    ensures cases { (th : Theory) (p q : Seq) → IsSeq (state store.old).contents p first.now → IsSeq (state store.old).contents q second.now → Gives th (p ∷ q ∷ []) (space work.old) (max (nodes_seq p) (nodes_seq q)) 0 (state store.old) (state store.new) (k_trans p q) work.new.full result }
+    ensures cases { (th : Theory) (p q : Seq) → IsSeq (S.state store.old).contents p first.now → IsSeq (S.state store.old).contents q second.now → Gives th (p ∷ q ∷ []) (space work.old) (max (nodes_seq p) (nodes_seq q)) 0 (S.state store.old) (S.state store.new) (k_trans p q) work.new.full result }
 {
     let left = equation(store, first.concl)?;
     let right = equation(store, second.concl)?;
@@ -96,7 +96,7 @@ fn applied<S: Store>(
     fs: Equation,
     xs: Equation,
 ) -> Option<u64>
-    ensures { (d : Ty) (p q : Sides) → Grounded (state store.old).contents ground → (state store.old).contents.typ b ≡ some d → IsEquation (state store.old).contents p fs → IsEquation (state store.old).contents q xs → Makes 6 (state store.old) (state store.new) (λ c n. c.term n ≡ some (equal d (app p.left q.left) (app p.right q.right))) result }
+    ensures { (d : Ty) (p q : Sides) → Grounded (S.state store.old).contents ground → (S.state store.old).contents.typ b ≡ some d → IsEquation (S.state store.old).contents p fs → IsEquation (S.state store.old).contents q xs → Makes 6 (S.state store.old) (S.state store.new) (λ c n. c.term n ≡ some (equal d (app p.left q.left) (app p.right q.right))) result }
 {
     let left = store.apply(fs.left, xs.left)?;
     let right = store.apply(fs.right, xs.right)?;
@@ -114,11 +114,11 @@ pub fn use_rule<S: Store>(
     second: &Sequent,
 ) -> Option<Sequent>
     requires clear { work.old.full ≡ false }
-    requires ground { Grounded (state store.old).contents ground }
-    requires first { (p : Seq) × IsSeq (state store.old).contents p first.now }
-    requires second { (q : Seq) × IsSeq (state store.old).contents q second.now }
+    requires ground { Grounded (S.state store.old).contents ground }
+    requires first { (p : Seq) × IsSeq (S.state store.old).contents p first.now }
+    requires second { (q : Seq) × IsSeq (S.state store.old).contents q second.now }
     ensures space { space work.new ≡ space work.old }
-    ensures cases { (th : Theory) (p q : Seq) → IsSeq (state store.old).contents p first.now → IsSeq (state store.old).contents q second.now → Gives th (p ∷ q ∷ []) (space work.old) (max (nodes_seq p) (nodes_seq q)) 0 (state store.old) (state store.new) (k_use p q) work.new.full result }
+    ensures cases { (th : Theory) (p q : Seq) → IsSeq (S.state store.old).contents p first.now → IsSeq (S.state store.old).contents q second.now → Gives th (p ∷ q ∷ []) (space work.old) (max (nodes_seq p) (nodes_seq q)) 0 (S.state store.old) (S.state store.new) (k_use p q) work.new.full result }
 {
     let functions = equation(store, first.concl)?;
     let arguments = equation(store, second.concl)?;

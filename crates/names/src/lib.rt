@@ -11,7 +11,7 @@ use store::view::NameView;
 
 // What follows the first byte of a name, if that is `byte`.
 fn tail_after<S: Store>(store: &S, name: u64, byte: u8) -> Option<u64>
-    ensures { (w : Word) → (state store.now).contents.word name ≡ some w → TailSays (state store.now).contents byte w result }
+    ensures { (w : Word) → (S.state store.now).contents.word name ≡ some w → TailSays (S.state store.now).contents byte w result }
 {
     match store.view_name(name)? {
         NameView::Byte(first, tail) if first == byte => Some(tail),
@@ -21,7 +21,7 @@ fn tail_after<S: Store>(store: &S, name: u64, byte: u8) -> Option<u64>
 
 // Whether a name has no bytes.
 fn is_empty<S: Store>(store: &S, name: u64) -> bool
-    ensures { (w : Word) → (state store.now).contents.word name ≡ some w → result ≡ same_word w [] }
+    ensures { (w : Word) → (S.state store.now).contents.word name ≡ some w → result ≡ same_word w [] }
 {
     match store.view_name(name) {
         Some(view) => match view {
@@ -34,7 +34,7 @@ fn is_empty<S: Store>(store: &S, name: u64) -> bool
 
 // Whether the name that a number stands for has these bytes.
 pub fn is_named<S: Store>(store: &S, name: u64, bytes: &[u8]) -> bool
-    ensures { (w : Word) → (state store.now).contents.word name ≡ some w → result ≡ same_word w bytes.now }
+    ensures { (w : Word) → (S.state store.now).contents.word name ≡ some w → result ≡ same_word w bytes.now }
 {
     let mut rest = name;
     for byte in bytes {

@@ -30,7 +30,7 @@ pub fn closes_next(tokens: &mut Tokens<'_>) -> bool
 
 // The next token as a name, if it is a word.
 fn name_next<S: Store>(store: &mut S, tokens: &mut Tokens<'_>) -> Result<Option<u64>, NoRoom>
-    ensures { NameSays (state store.old) (state store.new) (stream tokens.old) (stream tokens.new) result }
+    ensures { NameSays (S.state store.old) (S.state store.new) (stream tokens.old) (stream tokens.new) result }
 {
     let next = tokens.next();
     let Some(token) = next else {
@@ -89,7 +89,7 @@ fn read_free<S: Store>(
 ) -> Result<Option<u64>, NoRoom>
     requires { top.old ≤ length words.old }
     ensures stack { Restores words.old top.old words.new top.new }
-    ensures cases { (ts : Sexps) (qs : List Sign) → stream tokens.old ≡ flats ts ++ (closes ∷ qs) → Reads (λ c. c.term) (read_free ts) (length words.old - top.old) (costs ts) (state store.old) (state store.new) qs (stream tokens.new) result }
+    ensures cases { (ts : Sexps) (qs : List Sign) → stream tokens.old ≡ flats ts ++ (closes ∷ qs) → Reads (λ c. c.term) (read_free ts) (length words.old - top.old) (costs ts) (S.state store.old) (S.state store.new) qs (stream tokens.new) result }
 {
     let bound = read_binder(store, words, top, tokens)?;
     let Some(variable) = bound else {
@@ -113,7 +113,7 @@ fn read_constant<S: Store>(
 ) -> Result<Option<u64>, NoRoom>
     requires { top.old ≤ length words.old }
     ensures stack { Restores words.old top.old words.new top.new }
-    ensures cases { (ts : Sexps) (qs : List Sign) → stream tokens.old ≡ flats ts ++ (closes ∷ qs) → Reads (λ c. c.term) (read_const ts) (length words.old - top.old) (costs ts) (state store.old) (state store.new) qs (stream tokens.new) result }
+    ensures cases { (ts : Sexps) (qs : List Sign) → stream tokens.old ≡ flats ts ++ (closes ∷ qs) → Reads (λ c. c.term) (read_const ts) (length words.old - top.old) (costs ts) (S.state store.old) (S.state store.new) qs (stream tokens.new) result }
 {
     let named = name_next(store, tokens)?;
     let Some(name) = named else {
@@ -138,7 +138,7 @@ fn read_binder<S: Store>(
 ) -> Result<Option<Binder>, NoRoom>
     requires { top.old ≤ length words.old }
     ensures stack { Restores words.old top.old words.new top.new }
-    ensures cases { (ts : Sexps) (qs : List Sign) → stream tokens.old ≡ flats ts ++ (closes ∷ qs) → BinderSays (length words.old - top.old) (state store.old) (state store.new) ts qs (stream tokens.new) result }
+    ensures cases { (ts : Sexps) (qs : List Sign) → stream tokens.old ≡ flats ts ++ (closes ∷ qs) → BinderSays (length words.old - top.old) (S.state store.old) (S.state store.new) ts qs (stream tokens.new) result }
 {
     let named = name_next(store, tokens)?;
     let Some(name) = named else {
@@ -160,7 +160,7 @@ pub fn open<S: Store>(
 ) -> Result<Opened, NoRoom>
     requires { top.old ≤ length words.old }
     ensures stack { Restores words.old top.old words.new top.new }
-    ensures cases { (ts : Sexps) (qs : List Sign) → stream tokens.old ≡ flats ts ++ (closes ∷ qs) → OpenSays (length words.old - top.old) (state store.old) (state store.new) ts qs (stream tokens.new) result }
+    ensures cases { (ts : Sexps) (qs : List Sign) → stream tokens.old ≡ flats ts ++ (closes ∷ qs) → OpenSays (length words.old - top.old) (S.state store.old) (S.state store.new) ts qs (stream tokens.new) result }
 {
     let next = form_next(tokens);
     let Some(form) = next else {

@@ -12,7 +12,7 @@ use store::Store;
 // How many λs outwards the innermost one stands whose variable has this name.
 pub fn lookup<S: Store>(store: &S, names: &Frame<'_>, w: &[u8]) -> Option<u64>
     requires { Within names.now }
-    ensures { (xs : List Word) → Names (state store.now).contents (held names.now) xs → Places (index_of w.now xs 0) result }
+    ensures { (xs : List Word) → Names (S.state store.now).contents (held names.now) xs → Places (index_of w.now xs 0) result }
 {
     let mut at = *names.top;
     let mut outwards = 0;

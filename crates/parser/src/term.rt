@@ -41,7 +41,7 @@ fn open_above<S: Store>(
     ensures held { held f.new ≡ held f.old }
     ensures top_name { f.new.top.ghost_name ≡ f.old.top.ghost_name }
     ensures words_name { f.new.words.ghost_name ≡ f.old.words.ghost_name }
-    ensures cases { (ts : Sexps) (qs : List Sign) → stream tokens.old ≡ flats ts ++ (closes ∷ qs) → OpenSays (capacity f.old - length (held f.old)) (state store.old) (state store.new) ts qs (stream tokens.new) result }
+    ensures cases { (ts : Sexps) (qs : List Sign) → stream tokens.old ≡ flats ts ++ (closes ∷ qs) → OpenSays (capacity f.old - length (held f.old)) (S.state store.old) (S.state store.new) ts qs (stream tokens.new) result }
 {
     let mut top = *f.top;
     open(store, f.words, &mut top, tokens)
@@ -64,7 +64,7 @@ fn down<S: Store>(
     ensures same_names { Same names.old names.new }
     ensures top_name_names { names.new.top.ghost_name ≡ names.old.top.ghost_name }
     ensures words_name_names { names.new.words.ghost_name ≡ names.old.words.ghost_name }
-    ensures moves { (qs : List Sign) (x : Point) → At (state store.old).contents (held f.old) (held names.old) (stream tokens.old) qs Turn.Down x → Moves (load Turn.Down (held f.old) (stream tokens.old)) (capacity f.old) (capacity names.old) (state store.old) (state store.new) (held f.new) (held names.new) (stream tokens.new) qs x result }
+    ensures moves { (qs : List Sign) (x : Point) → At (S.state store.old).contents (held f.old) (held names.old) (stream tokens.old) qs Turn.Down x → Moves (load Turn.Down (held f.old) (stream tokens.old)) (capacity f.old) (capacity names.old) (S.state store.old) (S.state store.new) (held f.new) (held names.new) (stream tokens.new) qs x result }
 {
     let next = tokens.next();
     let Some(token) = next else {
@@ -126,7 +126,7 @@ fn up<S: Store>(
     ensures same_names { Same names.old names.new }
     ensures top_name_names { names.new.top.ghost_name ≡ names.old.top.ghost_name }
     ensures words_name_names { names.new.words.ghost_name ≡ names.old.words.ghost_name }
-    ensures moves { (qs : List Sign) (x : Point) → At (state store.old).contents (held f.old) (held names.old) (stream tokens.old) qs (Turn.Up t) x → Moves (load (Turn.Up t) (held f.old) (stream tokens.old)) (capacity f.old) (capacity names.old) (state store.old) (state store.new) (held f.new) (held names.new) (stream tokens.new) qs x result }
+    ensures moves { (qs : List Sign) (x : Point) → At (S.state store.old).contents (held f.old) (held names.old) (stream tokens.old) qs (Turn.Up t) x → Moves (load (Turn.Up t) (held f.old) (stream tokens.old)) (capacity f.old) (capacity names.old) (S.state store.old) (S.state store.new) (held f.new) (held names.new) (stream tokens.new) qs x result }
 {
     let Some((k, kept)) = f.pop_pair() else {
         return Ok(Turn::End(t));
@@ -175,8 +175,8 @@ pub fn read_term<S: Store>(
     requires ahead { ((u : Sexp) × (qs : List Sign) × (stream tokens.old ≡ flat u ++ qs)) ⊎ ((qs : List Sign) × (stream tokens.old ≡ closes ∷ qs)) }
     ensures stack { Restores words.old top.old words.new top.new }
     ensures scope { Restores scope.old scope_top.old scope.new scope_top.new }
-    ensures cases { (n : ℕ) (u : Sexp) (qs : List Sign) → stream tokens.old ≡ flat u ++ qs → depth u ≤ n → TermSays (length words.old - top.old) (length scope.old - scope_top.old) (cost u) (state store.old) (state store.new) (read_term n [] u) qs (stream tokens.new) result }
-    ensures none { (qs : List Sign) → stream tokens.old ≡ closes ∷ qs → Absent (state store.old) (state store.new) result }
+    ensures cases { (n : ℕ) (u : Sexp) (qs : List Sign) → stream tokens.old ≡ flat u ++ qs → depth u ≤ n → TermSays (length words.old - top.old) (length scope.old - scope_top.old) (cost u) (S.state store.old) (S.state store.new) (read_term n [] u) qs (stream tokens.new) result }
+    ensures none { (qs : List Sign) → stream tokens.old ≡ closes ∷ qs → Absent (S.state store.old) (S.state store.new) result }
 {
     let mut f = Frame::new(words, top);
     let mut names = Frame::new(scope, scope_top);

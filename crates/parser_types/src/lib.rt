@@ -27,7 +27,7 @@ pub fn is_type_variable(w: &[u8]) -> bool
 
 // The type that a word stands for: a type variable, or a type without arguments.
 fn word_type<S: Store>(store: &mut S, w: &[u8]) -> Result<u64, NoRoom>
-    ensures { WordSays w.now (state store.old) (state store.new) result }
+    ensures { WordSays w.now (S.state store.old) (S.state store.new) result }
 {
     if is_type_variable(w) {
         return match store.letter(w) {
@@ -46,7 +46,7 @@ fn word_type<S: Store>(store: &mut S, w: &[u8]) -> Result<u64, NoRoom>
 
 // The name behind an opening bracket, which is no type variable.
 fn type_name<S: Store>(store: &mut S, tokens: &mut Tokens<'_>) -> Result<Option<u64>, NoRoom>
-    ensures { NameSays (state store.old) (state store.new) (stream tokens.old) (stream tokens.new) result }
+    ensures { NameSays (S.state store.old) (S.state store.new) (stream tokens.old) (stream tokens.new) result }
 {
     let next = tokens.next();
     let Some(token) = next else {
@@ -89,7 +89,7 @@ fn advance<S: Store>(
     ensures same { Same f.old f.new }
     ensures top_name { f.new.top.ghost_name ≡ f.old.top.ghost_name }
     ensures words_name { f.new.words.ghost_name ≡ f.old.words.ghost_name }
-    ensures moves { (qs : List Sign) (x : Point) → At (state store.old).contents (held f.old) (stream tokens.old) qs Turn.Next x → Moves (capacity f.old) (state store.old) (state store.new) (held f.new) (stream tokens.new) qs x result }
+    ensures moves { (qs : List Sign) (x : Point) → At (S.state store.old).contents (held f.old) (stream tokens.old) qs Turn.Next x → Moves (capacity f.old) (S.state store.old) (S.state store.new) (held f.new) (stream tokens.new) qs x result }
     ensures falls { Falls Turn.Next (held f.old) (stream tokens.old) (held f.new) (stream tokens.new) result }
 {
     let next = tokens.next();
@@ -127,7 +127,7 @@ fn collect<S: Store>(store: &mut S, f: &mut Frame<'_>, list: u64) -> Result<Turn
     ensures same { Same f.old f.new }
     ensures top_name { f.new.top.ghost_name ≡ f.old.top.ghost_name }
     ensures words_name { f.new.words.ghost_name ≡ f.old.words.ghost_name }
-    ensures moves { (ps qs : List Sign) (x : Point) → At (state store.old).contents (held f.old) ps qs (Turn.Close list) x → Moves (capacity f.old) (state store.old) (state store.new) (held f.new) ps qs x result }
+    ensures moves { (ps qs : List Sign) (x : Point) → At (S.state store.old).contents (held f.old) ps qs (Turn.Close list) x → Moves (capacity f.old) (S.state store.old) (S.state store.new) (held f.new) ps qs x result }
     ensures falls { (ps : List Sign) → Falls (Turn.Close list) (held f.old) ps (held f.new) ps result }
 {
     let Some((k, n)) = f.pop_pair() else {
@@ -160,7 +160,7 @@ pub fn read_types<S: Store>(
 ) -> Result<Option<u64>, NoRoom>
     requires { top.old ≤ length words.old }
     ensures stack { Restores words.old top.old words.new top.new }
-    ensures cases { (us : Sexps) (qs : List Sign) → stream tokens.old ≡ flats us ++ (closes ∷ qs) → Reads (λ c. c.types) (read_types us) (length words.old - top.old) (costs us) (state store.old) (state store.new) qs (stream tokens.new) result }
+    ensures cases { (us : Sexps) (qs : List Sign) → stream tokens.old ≡ flats us ++ (closes ∷ qs) → Reads (λ c. c.types) (read_types us) (length words.old - top.old) (costs us) (S.state store.old) (S.state store.new) qs (stream tokens.new) result }
 {
     let mut f = Frame::new(words, top);
     let mut turn = Turn::Next;
@@ -183,8 +183,8 @@ pub fn read_type<S: Store>(
 ) -> Result<Option<u64>, NoRoom>
     requires { top.old ≤ length words.old }
     ensures stack { Restores words.old top.old words.new top.new }
-    ensures cases { (u : Sexp) (qs : List Sign) → stream tokens.old ≡ flat u ++ qs → Reads (λ c. c.typ) (read_type u) (length words.old - top.old) (cost u) (state store.old) (state store.new) qs (stream tokens.new) result }
-    ensures none { (qs : List Sign) → stream tokens.old ≡ closes ∷ qs → Absent (state store.old) (state store.new) result }
+    ensures cases { (u : Sexp) (qs : List Sign) → stream tokens.old ≡ flat u ++ qs → Reads (λ c. c.typ) (read_type u) (length words.old - top.old) (cost u) (S.state store.old) (S.state store.new) qs (stream tokens.new) result }
+    ensures none { (qs : List Sign) → stream tokens.old ≡ closes ∷ qs → Absent (S.state store.old) (S.state store.new) result }
 {
     let next = tokens.next();
     let Some(token) = next else {

@@ -18,8 +18,8 @@ use store::view::TermView;
 
 // Whether two free variables are the same: by name and by type.
 pub fn same_variable<S: Store>(store: &mut S, x: u64, a: u64, y: u64, b: u64) -> bool
-    ensures stays { Stays (state store.old) (state store.new) }
-    ensures cases { (v : Word) (c : Ty) (w : Word) (d : Ty) → (state store.old).contents.word x ≡ some v → (state store.old).contents.typ a ≡ some c → (state store.old).contents.word y ≡ some w → (state store.old).contents.typ b ≡ some d → same_var v c w d ≡ result }
+    ensures stays { Stays (S.state store.old) (S.state store.new) }
+    ensures cases { (v : Word) (c : Ty) (w : Word) (d : Ty) → (S.state store.old).contents.word x ≡ some v → (S.state store.old).contents.typ a ≡ some c → (S.state store.old).contents.word y ≡ some w → (S.state store.old).contents.typ b ≡ some d → same_var v c w d ≡ result }
 {
     if store.same_name(x, y) {
         store.same_type(a, b)
@@ -89,10 +89,10 @@ pub fn close<S: Store>(
     t: u64,
 ) -> Result<u64, NoRoom>
     requires stack { top.old ≤ length words.old }
-    requires variable { (w : Word) × (b : Ty) × ((state store.old).contents.word x ≡ some w) × ((state store.old).contents.typ a ≡ some b) }
-    requires stands { (u : Tm) × ((state store.old).contents.term t ≡ some u) }
+    requires variable { (w : Word) × (b : Ty) × ((S.state store.old).contents.word x ≡ some w) × ((S.state store.old).contents.typ a ≡ some b) }
+    requires stands { (u : Tm) × ((S.state store.old).contents.term t ≡ some u) }
     ensures stack { Restores words.old top.old words.new top.new }
-    ensures made { (w : Word) (b : Ty) (u : Tm) → (state store.old).contents.word x ≡ some w → (state store.old).contents.typ a ≡ some b → (state store.old).contents.term t ≡ some u → Rebuilds (length words.old - top.old) (nodes_tm u) (nodes_tm (close_at 0 w b u)) (state store.old) (state store.new) (λ d n. d.term n ≡ some (close_at 0 w b u)) result }
+    ensures made { (w : Word) (b : Ty) (u : Tm) → (S.state store.old).contents.word x ≡ some w → (S.state store.old).contents.typ a ≡ some b → (S.state store.old).contents.term t ≡ some u → Rebuilds (length words.old - top.old) (nodes_tm u) (nodes_tm (close_at 0 w b u)) (S.state store.old) (S.state store.new) (λ d n. d.term n ≡ some (close_at 0 w b u)) result }
 {
     rebuild(store, &Closing { x, a }, &[], words, top, t, 0)
 }

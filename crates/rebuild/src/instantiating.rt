@@ -77,10 +77,10 @@ pub fn inst<S: Store>(
     t: u64,
 ) -> Result<u64, NoRoom>
     requires stack { top.old ≤ length words.old }
-    requires entries { (es : TySubst) × TyEntries (state store.old).contents entries.now es }
-    requires stands { (u : Tm) × ((state store.old).contents.term t ≡ some u) }
+    requires entries { (es : TySubst) × TyEntries (S.state store.old).contents entries.now es }
+    requires stands { (u : Tm) × ((S.state store.old).contents.term t ≡ some u) }
     ensures stack { Restores words.old top.old words.new top.new }
-    ensures made { (es : TySubst) (u : Tm) → TyEntries (state store.old).contents entries.now es → (state store.old).contents.term t ≡ some u → Rebuilds (length words.old - top.old) (nodes_tm u) (nodes_tm (inst_tm es u)) (state store.old) (state store.new) (λ d n. d.term n ≡ some (inst_tm es u)) result }
+    ensures made { (es : TySubst) (u : Tm) → TyEntries (S.state store.old).contents entries.now es → (S.state store.old).contents.term t ≡ some u → Rebuilds (length words.old - top.old) (nodes_tm u) (nodes_tm (inst_tm es u)) (S.state store.old) (S.state store.new) (λ d n. d.term n ≡ some (inst_tm es u)) result }
 {
     rebuild(store, &Instantiating, entries, words, top, t, 0)
 }

@@ -26,10 +26,10 @@ pub trait Leaf<S: Store> {
         depth: u64,
     ) -> Result<u64, NoRoom>
         requires stack { top.old ≤ length words.old }
-        requires does { (F : Change) × does self.now entries.now (state store.old).contents F }
-        requires stands { (u : Tm) × ((state store.old).contents.term t ≡ some u) }
+        requires does { (F : Change) × does self.now entries.now (S.state store.old).contents F }
+        requires stands { (u : Tm) × ((S.state store.old).contents.term t ≡ some u) }
         ensures stack { Restores words.old top.old words.new top.new }
-        ensures made { (F : Change) (u : Tm) → does self.now entries.now (state store.old).contents F → (state store.old).contents.term t ≡ some u → is_leaf u ≡ true → Rebuilds (length words.old - top.old) (nodes_tm u) (nodes_tm (F.leaf depth u)) (state store.old) (state store.new) (λ d n. d.term n ≡ some (F.leaf depth u)) result };
+        ensures made { (F : Change) (u : Tm) → does self.now entries.now (S.state store.old).contents F → (S.state store.old).contents.term t ≡ some u → is_leaf u ≡ true → Rebuilds (length words.old - top.old) (nodes_tm u) (nodes_tm (F.leaf depth u)) (S.state store.old) (S.state store.new) (λ d n. d.term n ≡ some (F.leaf depth u)) result };
 
     // What becomes of the type `a` of a λ.
     fn typ(
@@ -41,10 +41,10 @@ pub trait Leaf<S: Store> {
         a: u64,
     ) -> Result<u64, NoRoom>
         requires stack { top.old ≤ length words.old }
-        requires does { (F : Change) × does self.now entries.now (state store.old).contents F }
-        requires stands { (b : Ty) × ((state store.old).contents.typ a ≡ some b) }
+        requires does { (F : Change) × does self.now entries.now (S.state store.old).contents F }
+        requires stands { (b : Ty) × ((S.state store.old).contents.typ a ≡ some b) }
         ensures stack { Restores words.old top.old words.new top.new }
-        ensures made { (F : Change) (b : Ty) → does self.now entries.now (state store.old).contents F → (state store.old).contents.typ a ≡ some b → Rebuilds (length words.old - top.old) (nodes_ty b) (nodes_ty (F.typ b)) (state store.old) (state store.new) (λ d n. d.typ n ≡ some (F.typ b)) result };
+        ensures made { (F : Change) (b : Ty) → does self.now entries.now (S.state store.old).contents F → (S.state store.old).contents.typ a ≡ some b → Rebuilds (length words.old - top.old) (nodes_ty b) (nodes_ty (F.typ b)) (S.state store.old) (S.state store.new) (λ d n. d.typ n ≡ some (F.typ b)) result };
 
     ghost stays: { (l : Self) (ws : List ℕ) (c d : Contents) (F : Change) → Keeps c d → does l ws c F → does l ws d F };
 }

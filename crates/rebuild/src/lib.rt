@@ -47,13 +47,13 @@ fn at_leaf<S: Store, L: Leaf<S>>(
     depth: u64,
 ) -> Result<Turn, NoRoom>
     requires within { Within f.old }
-    requires does { (F : Change) × does leaf.now entries.now (state store.old).contents F }
-    requires stands { (u : Tm) × ((state store.old).contents.term t ≡ some u) }
+    requires does { (F : Change) × L.does leaf.now entries.now (S.state store.old).contents F }
+    requires stands { (u : Tm) × ((S.state store.old).contents.term t ≡ some u) }
     ensures within { Within f.new }
     ensures same { Same f.old f.new }
     ensures top_name { f.new.top.ghost_name ≡ f.old.top.ghost_name }
     ensures words_name { f.new.words.ghost_name ≡ f.old.words.ghost_name }
-    ensures moves { (F : Change) (d : ℕ) (p : Path) (u : Tm) → does leaf.now entries.now (state store.old).contents F → (state store.old).contents.term t ≡ some u → is_leaf u ≡ true → Holds (state store.old).contents (held f.old) p → depth ≡ deep d p → Moves F d (capacity f.old) (state store.old) (state store.new) (held f.new) (down p u) result }
+    ensures moves { (F : Change) (d : ℕ) (p : Path) (u : Tm) → L.does leaf.now entries.now (S.state store.old).contents F → (S.state store.old).contents.term t ≡ some u → is_leaf u ≡ true → Holds (S.state store.old).contents (held f.old) p → depth ≡ deep d p → Moves F d (capacity f.old) (S.state store.old) (S.state store.new) (held f.new) (down p u) result }
 {
     let mut above = *f.top;
     match leaf.leaf(store, entries, f.words, &mut above, t, depth) {
@@ -73,13 +73,13 @@ fn into_lambda<S: Store, L: Leaf<S>>(
     depth: u64,
 ) -> Result<Turn, NoRoom>
     requires within { Within f.old }
-    requires does { (F : Change) × does leaf.now entries.now (state store.old).contents F }
-    requires stands { (b : Ty) × ((state store.old).contents.typ a ≡ some b) }
+    requires does { (F : Change) × L.does leaf.now entries.now (S.state store.old).contents F }
+    requires stands { (b : Ty) × ((S.state store.old).contents.typ a ≡ some b) }
     ensures within { Within f.new }
     ensures same { Same f.old f.new }
     ensures top_name { f.new.top.ghost_name ≡ f.old.top.ghost_name }
     ensures words_name { f.new.words.ghost_name ≡ f.old.words.ghost_name }
-    ensures moves { (F : Change) (d : ℕ) (p : Path) (b : Ty) (u : Tm) → does leaf.now entries.now (state store.old).contents F → (state store.old).contents.typ a ≡ some b → (state store.old).contents.term body ≡ some u → Holds (state store.old).contents (held f.old) p → depth ≡ deep d p → d < 2 ^ 63 → Moves F d (capacity f.old) (state store.old) (state store.new) (held f.new) (down p (lam b u)) result }
+    ensures moves { (F : Change) (d : ℕ) (p : Path) (b : Ty) (u : Tm) → L.does leaf.now entries.now (S.state store.old).contents F → (S.state store.old).contents.typ a ≡ some b → (S.state store.old).contents.term body ≡ some u → Holds (S.state store.old).contents (held f.old) p → depth ≡ deep d p → d < 2 ^ 63 → Moves F d (capacity f.old) (S.state store.old) (S.state store.new) (held f.new) (down p (lam b u)) result }
 {
     let mut above = *f.top;
     let Some(under) = depth.checked_add(1) else {
@@ -107,13 +107,13 @@ fn down<S: Store, L: Leaf<S>>(
     depth: u64,
 ) -> Result<Turn, NoRoom>
     requires within { Within f.old }
-    requires does { (F : Change) × does leaf.now entries.now (state store.old).contents F }
-    requires stands { (u : Tm) × ((state store.old).contents.term t ≡ some u) }
+    requires does { (F : Change) × L.does leaf.now entries.now (S.state store.old).contents F }
+    requires stands { (u : Tm) × ((S.state store.old).contents.term t ≡ some u) }
     ensures within { Within f.new }
     ensures same { Same f.old f.new }
     ensures top_name { f.new.top.ghost_name ≡ f.old.top.ghost_name }
     ensures words_name { f.new.words.ghost_name ≡ f.old.words.ghost_name }
-    ensures moves { (F : Change) (d : ℕ) (x : Point) → does leaf.now entries.now (state store.old).contents F → At d (state store.old).contents (held f.old) (Turn.Down t depth) x → d < 2 ^ 63 → Moves F d (capacity f.old) (state store.old) (state store.new) (held f.new) x result }
+    ensures moves { (F : Change) (d : ℕ) (x : Point) → L.does leaf.now entries.now (S.state store.old).contents F → At d (S.state store.old).contents (held f.old) (Turn.Down t depth) x → d < 2 ^ 63 → Moves F d (capacity f.old) (S.state store.old) (S.state store.new) (held f.new) x result }
 {
     let Some(view) = store.view_term(t) else {
         return Err(NoRoom);
@@ -140,7 +140,7 @@ fn up<S: Store>(store: &mut S, f: &mut Frame<'_>, n: u64, depth: u64) -> Result<
     ensures same { Same f.old f.new }
     ensures top_name { f.new.top.ghost_name ≡ f.old.top.ghost_name }
     ensures words_name { f.new.words.ghost_name ≡ f.old.words.ghost_name }
-    ensures moves { (F : Change) (d : ℕ) (x : Point) → At d (state store.old).contents (held f.old) (Turn.Up n depth) x → Moves F d (capacity f.old) (state store.old) (state store.new) (held f.new) x result }
+    ensures moves { (F : Change) (d : ℕ) (x : Point) → At d (S.state store.old).contents (held f.old) (Turn.Up n depth) x → Moves F d (capacity f.old) (S.state store.old) (S.state store.new) (held f.new) x result }
 {
     let Some((k, kept)) = f.pop_pair() else {
         return Ok(Turn::End(n));
@@ -173,13 +173,13 @@ fn step<S: Store, L: Leaf<S>>(
     turn: Turn,
 ) -> Result<Turn, NoRoom>
     requires within { Within f.old }
-    requires does { (F : Change) × does leaf.now entries.now (state store.old).contents F }
-    requires at { (d : ℕ) × (x : Point) × At d (state store.old).contents (held f.old) turn x }
+    requires does { (F : Change) × L.does leaf.now entries.now (S.state store.old).contents F }
+    requires at { (d : ℕ) × (x : Point) × At d (S.state store.old).contents (held f.old) turn x }
     ensures within { Within f.new }
     ensures same { Same f.old f.new }
     ensures top_name { f.new.top.ghost_name ≡ f.old.top.ghost_name }
     ensures words_name { f.new.words.ghost_name ≡ f.old.words.ghost_name }
-    ensures moves { (F : Change) (d : ℕ) (x : Point) → does leaf.now entries.now (state store.old).contents F → At d (state store.old).contents (held f.old) turn x → d < 2 ^ 63 → 0 < moves x → Moves F d (capacity f.old) (state store.old) (state store.new) (held f.new) x result }
+    ensures moves { (F : Change) (d : ℕ) (x : Point) → L.does leaf.now entries.now (S.state store.old).contents F → At d (S.state store.old).contents (held f.old) turn x → d < 2 ^ 63 → 0 < moves x → Moves F d (capacity f.old) (S.state store.old) (S.state store.new) (held f.new) x result }
 {
     match turn {
         Turn::Down(t, depth) => down(store, leaf, entries, f, t, depth),
@@ -199,11 +199,11 @@ pub fn rebuild<S: Store, L: Leaf<S>>(
     depth: u64,
 ) -> Result<u64, NoRoom>
     requires stack { top.old ≤ length words.old }
-    requires does { (F : Change) × does leaf.now entries.now (state store.old).contents F }
-    requires stands { (u : Tm) × ((state store.old).contents.term t ≡ some u) }
+    requires does { (F : Change) × L.does leaf.now entries.now (S.state store.old).contents F }
+    requires stands { (u : Tm) × ((S.state store.old).contents.term t ≡ some u) }
     requires shallow { depth < 2 ^ 63 }
     ensures stack { Restores words.old top.old words.new top.new }
-    ensures made { (F : Change) (u : Tm) → does leaf.now entries.now (state store.old).contents F → (state store.old).contents.term t ≡ some u → Rebuilds (length words.old - top.old) (nodes_tm u) (nodes_tm (rebuilt F depth u)) (state store.old) (state store.new) (λ d n. d.term n ≡ some (rebuilt F depth u)) result }
+    ensures made { (F : Change) (u : Tm) → L.does leaf.now entries.now (S.state store.old).contents F → (S.state store.old).contents.term t ≡ some u → Rebuilds (length words.old - top.old) (nodes_tm u) (nodes_tm (rebuilt F depth u)) (S.state store.old) (S.state store.new) (λ d n. d.term n ≡ some (rebuilt F depth u)) result }
 {
     let mut f = Frame::new(words, top);
     let mut turn = Turn::Down(t, depth);

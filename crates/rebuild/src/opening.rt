@@ -62,10 +62,10 @@ pub fn open<S: Store>(
     t: u64,
 ) -> Result<u64, NoRoom>
     requires stack { top.old ≤ length words.old }
-    requires term { (v : Tm) × ((state store.old).contents.term s ≡ some v) }
-    requires stands { (u : Tm) × ((state store.old).contents.term t ≡ some u) }
+    requires term { (v : Tm) × ((S.state store.old).contents.term s ≡ some v) }
+    requires stands { (u : Tm) × ((S.state store.old).contents.term t ≡ some u) }
     ensures stack { Restores words.old top.old words.new top.new }
-    ensures made { (v u : Tm) → (state store.old).contents.term s ≡ some v → (state store.old).contents.term t ≡ some u → Rebuilds (length words.old - top.old) (nodes_tm u) (nodes_tm (open_at 0 v u)) (state store.old) (state store.new) (λ d n. d.term n ≡ some (open_at 0 v u)) result }
+    ensures made { (v u : Tm) → (S.state store.old).contents.term s ≡ some v → (S.state store.old).contents.term t ≡ some u → Rebuilds (length words.old - top.old) (nodes_tm u) (nodes_tm (open_at 0 v u)) (S.state store.old) (S.state store.new) (λ d n. d.term n ≡ some (open_at 0 v u)) result }
 {
     rebuild(store, &Opening(s), &[], words, top, t, 0)
 }

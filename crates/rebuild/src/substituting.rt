@@ -19,8 +19,8 @@ use store::view::TermView;
 
 // The term that the first of the entries for this variable has.
 fn find<S: Store>(store: &mut S, entries: &[u64], x: u64, a: u64) -> Option<u64>
-    ensures stays { Stays (state store.old) (state store.new) }
-    ensures cases { (es : Subst) (w : Word) (b : Ty) → Entries (state store.old).contents entries.now es → (state store.old).contents.word x ≡ some w → (state store.old).contents.typ a ≡ some b → Finds (state store.old).contents es w b result }
+    ensures stays { Stays (S.state store.old) (S.state store.new) }
+    ensures cases { (es : Subst) (w : Word) (b : Ty) → Entries (S.state store.old).contents entries.now es → (S.state store.old).contents.word x ≡ some w → (S.state store.old).contents.typ a ≡ some b → Finds (S.state store.old).contents es w b result }
 {
     let mut rest = entries;
     while let [y, b, t, tail @ ..] = rest {
@@ -83,10 +83,10 @@ pub fn subst<S: Store>(
     t: u64,
 ) -> Result<u64, NoRoom>
     requires stack { top.old ≤ length words.old }
-    requires entries { (es : Subst) × Entries (state store.old).contents entries.now es }
-    requires stands { (u : Tm) × ((state store.old).contents.term t ≡ some u) }
+    requires entries { (es : Subst) × Entries (S.state store.old).contents entries.now es }
+    requires stands { (u : Tm) × ((S.state store.old).contents.term t ≡ some u) }
     ensures stack { Restores words.old top.old words.new top.new }
-    ensures made { (es : Subst) (u : Tm) → Entries (state store.old).contents entries.now es → (state store.old).contents.term t ≡ some u → Rebuilds (length words.old - top.old) (nodes_tm u) (nodes_tm (subst_tm es u)) (state store.old) (state store.new) (λ d n. d.term n ≡ some (subst_tm es u)) result }
+    ensures made { (es : Subst) (u : Tm) → Entries (S.state store.old).contents entries.now es → (S.state store.old).contents.term t ≡ some u → Rebuilds (length words.old - top.old) (nodes_tm u) (nodes_tm (subst_tm es u)) (S.state store.old) (S.state store.new) (λ d n. d.term n ≡ some (subst_tm es u)) result }
 {
     rebuild(store, &Substituting, entries, words, top, t, 0)
 }

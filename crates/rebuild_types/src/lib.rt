@@ -22,8 +22,8 @@ use turn::{Turn, Wait};
 
 // The type that the first of the entries for this name has.
 fn find<S: Store>(store: &mut S, entries: &[u64], name: u64) -> Option<u64>
-    ensures stays { Stays (state store.old) (state store.new) }
-    ensures cases { (es : TySubst) (w : Word) → TyEntries (state store.old).contents entries.now es → (state store.old).contents.word name ≡ some w → Finds (state store.old).contents (find_ty es w) result }
+    ensures stays { Stays (S.state store.old) (S.state store.new) }
+    ensures cases { (es : TySubst) (w : Word) → TyEntries (S.state store.old).contents entries.now es → (S.state store.old).contents.word name ≡ some w → Finds (S.state store.old).contents (find_ty es w) result }
 {
     let mut rest = entries;
     while let [x, a, tail @ ..] = rest {
@@ -60,7 +60,7 @@ fn down_type<S: Store>(
     ensures same { Same f.old f.new }
     ensures top_name { f.new.top.ghost_name ≡ f.old.top.ghost_name }
     ensures words_name { f.new.words.ghost_name ≡ f.old.words.ghost_name }
-    ensures moves { (es : TySubst) (x : Point) → TyEntries (state store.old).contents entries.now es → At (state store.old).contents (held f.old) (Turn.DownType a) x → Moves es (capacity f.old) (state store.old) (state store.new) (held f.new) x result }
+    ensures moves { (es : TySubst) (x : Point) → TyEntries (S.state store.old).contents entries.now es → At (S.state store.old).contents (held f.old) (Turn.DownType a) x → Moves es (capacity f.old) (S.state store.old) (S.state store.new) (held f.new) x result }
 {
     let Some(view) = store.view_type(a) else {
         return Err(NoRoom);
@@ -87,7 +87,7 @@ fn down_types<S: Store>(store: &mut S, f: &mut Frame<'_>, list: u64) -> Result<T
     ensures same { Same f.old f.new }
     ensures top_name { f.new.top.ghost_name ≡ f.old.top.ghost_name }
     ensures words_name { f.new.words.ghost_name ≡ f.old.words.ghost_name }
-    ensures moves { (es : TySubst) (x : Point) → At (state store.old).contents (held f.old) (Turn.DownTypes list) x → Moves es (capacity f.old) (state store.old) (state store.new) (held f.new) x result }
+    ensures moves { (es : TySubst) (x : Point) → At (S.state store.old).contents (held f.old) (Turn.DownTypes list) x → Moves es (capacity f.old) (S.state store.old) (S.state store.new) (held f.new) x result }
 {
     let Some(view) = store.view_types(list) else {
         return Err(NoRoom);
@@ -111,7 +111,7 @@ fn up<S: Store>(store: &mut S, f: &mut Frame<'_>, n: u64) -> Result<Turn, NoRoom
     ensures same { Same f.old f.new }
     ensures top_name { f.new.top.ghost_name ≡ f.old.top.ghost_name }
     ensures words_name { f.new.words.ghost_name ≡ f.old.words.ghost_name }
-    ensures moves { (es : TySubst) (x : Point) → At (state store.old).contents (held f.old) (Turn.Up n) x → Moves es (capacity f.old) (state store.old) (state store.new) (held f.new) x result }
+    ensures moves { (es : TySubst) (x : Point) → At (S.state store.old).contents (held f.old) (Turn.Up n) x → Moves es (capacity f.old) (S.state store.old) (S.state store.new) (held f.new) x result }
 {
     let Some((k, kept)) = f.pop_pair() else {
         return Ok(Turn::End(n));
@@ -147,7 +147,7 @@ fn step<S: Store>(
     ensures same { Same f.old f.new }
     ensures top_name { f.new.top.ghost_name ≡ f.old.top.ghost_name }
     ensures words_name { f.new.words.ghost_name ≡ f.old.words.ghost_name }
-    ensures moves { (es : TySubst) (x : Point) → TyEntries (state store.old).contents entries.now es → At (state store.old).contents (held f.old) turn x → 0 < moves x → Moves es (capacity f.old) (state store.old) (state store.new) (held f.new) x result }
+    ensures moves { (es : TySubst) (x : Point) → TyEntries (S.state store.old).contents entries.now es → At (S.state store.old).contents (held f.old) turn x → 0 < moves x → Moves es (capacity f.old) (S.state store.old) (S.state store.new) (held f.new) x result }
 {
     match turn {
         Turn::DownType(a) => down_type(store, f, entries, a),
@@ -166,10 +166,10 @@ fn run<S: Store>(
     start: Turn,
 ) -> Result<u64, NoRoom>
     requires stack { top.old ≤ length words.old }
-    requires entries { (es : TySubst) × TyEntries (state store.old).contents entries.now es }
-    requires start { (k : Sort) × (y : Of k) × At (state store.old).contents [] start (down root y) }
+    requires entries { (es : TySubst) × TyEntries (S.state store.old).contents entries.now es }
+    requires start { (k : Sort) × (y : Of k) × At (S.state store.old).contents [] start (down root y) }
     ensures stack { Restores words.old top.old words.new top.new }
-    ensures made { (es : TySubst) (k : Sort) (y : Of k) → TyEntries (state store.old).contents entries.now es → At (state store.old).contents [] start (down root y) → Rebuilds (length words.old - top.old) (nodes k y) (nodes k (substituted es k y)) (state store.old) (state store.new) (Is (item k (substituted es k y))) result }
+    ensures made { (es : TySubst) (k : Sort) (y : Of k) → TyEntries (S.state store.old).contents entries.now es → At (S.state store.old).contents [] start (down root y) → Rebuilds (length words.old - top.old) (nodes k y) (nodes k (substituted es k y)) (S.state store.old) (S.state store.new) (Is (item k (substituted es k y))) result }
 {
     let mut f = Frame::new(words, top);
     let mut turn = start;
@@ -190,10 +190,10 @@ pub fn subst_type<S: Store>(
     a: u64,
 ) -> Result<u64, NoRoom>
     requires stack { top.old ≤ length words.old }
-    requires entries { (es : TySubst) × TyEntries (state store.old).contents entries.now es }
-    requires stands { (b : Ty) × ((state store.old).contents.typ a ≡ some b) }
+    requires entries { (es : TySubst) × TyEntries (S.state store.old).contents entries.now es }
+    requires stands { (b : Ty) × ((S.state store.old).contents.typ a ≡ some b) }
     ensures stack { Restores words.old top.old words.new top.new }
-    ensures made { (es : TySubst) (b : Ty) → TyEntries (state store.old).contents entries.now es → (state store.old).contents.typ a ≡ some b → Rebuilds (length words.old - top.old) (nodes_ty b) (nodes_ty (subst_ty es b)) (state store.old) (state store.new) (λ d n. d.typ n ≡ some (subst_ty es b)) result }
+    ensures made { (es : TySubst) (b : Ty) → TyEntries (S.state store.old).contents entries.now es → (S.state store.old).contents.typ a ≡ some b → Rebuilds (length words.old - top.old) (nodes_ty b) (nodes_ty (subst_ty es b)) (S.state store.old) (S.state store.new) (λ d n. d.typ n ≡ some (subst_ty es b)) result }
 {
     run(store, words, top, entries, Turn::DownType(a))
 }
@@ -207,10 +207,10 @@ pub fn subst_types<S: Store>(
     list: u64,
 ) -> Result<u64, NoRoom>
     requires stack { top.old ≤ length words.old }
-    requires entries { (es : TySubst) × TyEntries (state store.old).contents entries.now es }
-    requires stands { (b : Tys) × ((state store.old).contents.types list ≡ some b) }
+    requires entries { (es : TySubst) × TyEntries (S.state store.old).contents entries.now es }
+    requires stands { (b : Tys) × ((S.state store.old).contents.types list ≡ some b) }
     ensures stack { Restores words.old top.old words.new top.new }
-    ensures made { (es : TySubst) (b : Tys) → TyEntries (state store.old).contents entries.now es → (state store.old).contents.types list ≡ some b → Rebuilds (length words.old - top.old) (nodes_tys b) (nodes_tys (subst_tys es b)) (state store.old) (state store.new) (λ d n. d.types n ≡ some (subst_tys es b)) result }
+    ensures made { (es : TySubst) (b : Tys) → TyEntries (S.state store.old).contents entries.now es → (S.state store.old).contents.types list ≡ some b → Rebuilds (length words.old - top.old) (nodes_tys b) (nodes_tys (subst_tys es b)) (S.state store.old) (S.state store.new) (λ d n. d.types n ≡ some (subst_tys es b)) result }
 {
     run(store, words, top, entries, Turn::DownTypes(list))
 }

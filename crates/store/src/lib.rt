@@ -8,7 +8,7 @@ ghost use Rattle.hol.specs.Base.{Word};
 ghost use Rattle.hol.specs.Syntax.{Ty, Tys, tnil, Tm};
 ghost use Rattle.store.specs.Measures.{nodes_ty, nodes_tys, nodes_tm, nodes_tms, capped};
 ghost use Rattle.store.specs.State.{State, Stays, back};
-ghost use Rattle.store.specs.Builds.{Builds, «IsWord», «IsLetter», «IsTyvar», «IsTyapp», «IsTypes», «IsFree», «IsBound», «IsConst», «IsApp», «IsLam», «IsTerms»};
+ghost use Rattle.store.specs.Builds.{Builds, IsWord, IsLetter, IsTyvar, IsTyapp, IsTypes, IsFree, IsBound, IsConst, IsApp, IsLam, IsTerms};
 ghost use Rattle.store.specs.Views.{NameSays, TypeSays, TypesSays, TermSays, TermsSays};
 
 pub mod view;
@@ -29,47 +29,47 @@ pub trait Store {
 
     // The name with these bytes. It costs a node for each byte.
     fn name(&mut self, w: &[u8]) -> Option<u64>
-        ensures { Builds (length w.now) (state self.old) (state self.new) («IsWord» w.now) result };
+        ensures { Builds (length w.now) (state self.old) (state self.new) (IsWord w.now) result };
 
     // The type variable whose name has these bytes. It costs a node, and one for each byte.
     fn letter(&mut self, w: &[u8]) -> Option<u64>
-        ensures { Builds (1 + length w.now) (state self.old) (state self.new) («IsLetter» w.now) result };
+        ensures { Builds (1 + length w.now) (state self.old) (state self.new) (IsLetter w.now) result };
 
     // The type variable of this name.
     fn type_variable(&mut self, name: u64) -> Option<u64>
-        ensures { Builds 1 (state self.old) (state self.new) («IsTyvar» name) result };
+        ensures { Builds 1 (state self.old) (state self.new) (IsTyvar name) result };
 
     // The named type with these arguments.
     fn type_named(&mut self, name: u64, args: u64) -> Option<u64>
-        ensures { Builds 1 (state self.old) (state self.new) («IsTyapp» name args) result };
+        ensures { Builds 1 (state self.old) (state self.new) (IsTyapp name args) result };
 
     // The list of types with `a` before `rest`.
     fn cons_type(&mut self, a: u64, rest: u64) -> Option<u64>
-        ensures { Builds 1 (state self.old) (state self.new) («IsTypes» a rest) result };
+        ensures { Builds 1 (state self.old) (state self.new) (IsTypes a rest) result };
 
     // The free variable of this name and type.
     fn free(&mut self, name: u64, a: u64) -> Option<u64>
-        ensures { Builds 1 (state self.old) (state self.new) («IsFree» name a) result };
+        ensures { Builds 1 (state self.old) (state self.new) (IsFree name a) result };
 
     // The variable of the k-th λ outwards.
     fn bound(&mut self, k: u64) -> Option<u64>
-        ensures { Builds 1 (state self.old) (state self.new) («IsBound» k) result };
+        ensures { Builds 1 (state self.old) (state self.new) (IsBound k) result };
 
     // The constant of this name, with these types for the type variables of its type.
     fn constant(&mut self, name: u64, args: u64) -> Option<u64>
-        ensures { Builds 1 (state self.old) (state self.new) («IsConst» name args) result };
+        ensures { Builds 1 (state self.old) (state self.new) (IsConst name args) result };
 
     // `f` applied to `x`.
     fn apply(&mut self, f: u64, x: u64) -> Option<u64>
-        ensures { Builds 1 (state self.old) (state self.new) («IsApp» f x) result };
+        ensures { Builds 1 (state self.old) (state self.new) (IsApp f x) result };
 
     // The λ over a variable of type `a` with the body `t`.
     fn lambda(&mut self, a: u64, t: u64) -> Option<u64>
-        ensures { Builds 1 (state self.old) (state self.new) («IsLam» a t) result };
+        ensures { Builds 1 (state self.old) (state self.new) (IsLam a t) result };
 
     // The list of terms with `t` before `rest`.
     fn cons_term(&mut self, t: u64, rest: u64) -> Option<u64>
-        ensures { Builds 1 (state self.old) (state self.new) («IsTerms» t rest) result };
+        ensures { Builds 1 (state self.old) (state self.new) (IsTerms t rest) result };
 
     // COMPARING takes no room and ends for any two numbers.
 

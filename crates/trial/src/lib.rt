@@ -9,7 +9,7 @@ use store::Store;
 
 // The term `x x` for the free variable x of type 'a, with nothing of it taken from before.
 fn self_applied<S: Store>(store: &mut S) -> Option<u64>
-    ensures { AppliedSays (state store.old) (state store.new) result }
+    ensures { AppliedSays (S.state store.old) (S.state store.new) result }
 {
     let a = store.letter(b"'a")?;
     let x = store.name(b"x")?;
@@ -19,7 +19,7 @@ fn self_applied<S: Store>(store: &mut S) -> Option<u64>
 
 // Builds a term twice and compares the two: they are the same. None for want of room.
 fn built_twice<S: Store>(store: &mut S) -> Option<bool>
-    ensures { TwiceSays (state store.old) (state store.new) result }
+    ensures { TwiceSays (S.state store.old) (S.state store.new) result }
 {
     let s = self_applied(store)?;
     let t = self_applied(store)?;
@@ -28,9 +28,9 @@ fn built_twice<S: Store>(store: &mut S) -> Option<bool>
 
 // The same, and all room is given back.
 pub fn trial<S: Store>(store: &mut S) -> Option<bool>
-    ensures cases { TrialSays (state store.old).left result }
-    ensures stays { Stays (state store.old) (state store.new) }
-    ensures contents { (state store.new).contents ≡ (state store.old).contents }
+    ensures cases { TrialSays (S.state store.old).left result }
+    ensures stays { Stays (S.state store.old) (S.state store.new) }
+    ensures contents { (S.state store.new).contents ≡ (S.state store.old).contents }
 {
     let mark = store.mark();
     let answer = built_twice(store);

@@ -9,8 +9,8 @@ use walk::look::types_at;
 
 // Whether a list has so many types.
 pub fn has_count<S: Store>(store: &S, list: u64, count: u64) -> bool
-    requires { (bs : Tys) × ((state store.now).contents.types list ≡ some bs) }
-    ensures { (bs : Tys) → (state store.now).contents.types list ≡ some bs → result ≡ (count_tys bs == count) }
+    requires { (bs : Tys) × ((S.state store.now).contents.types list ≡ some bs) }
+    ensures { (bs : Tys) → (S.state store.now).contents.types list ≡ some bs → result ≡ (count_tys bs == count) }
 {
     let mut rest = list;
     let mut left = count;

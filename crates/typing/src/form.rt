@@ -14,7 +14,7 @@ use walk::shapes::arrow;
 
 // The type of the functions from `a` to `b`. `fun_name` is the number of the name ->.
 pub fn function_type<S: Store>(store: &mut S, fun_name: u64, a: u64, b: u64) -> Result<u64, NoRoom>
-    ensures { (c d : Ty) → (state store.old).contents.word fun_name ≡ some w_fun → (state store.old).contents.typ a ≡ some c → (state store.old).contents.typ b ≡ some d → Answers ((state store.old).left < 3) (Made 3 (state store.old) (state store.new) (λ e n. e.typ n ≡ some (fun c d))) result }
+    ensures { (c d : Ty) → (S.state store.old).contents.word fun_name ≡ some w_fun → (S.state store.old).contents.typ a ≡ some c → (S.state store.old).contents.typ b ≡ some d → Answers ((S.state store.old).left < 3) (Made 3 (S.state store.old) (S.state store.new) (λ e n. e.typ n ≡ some (fun c d))) result }
 {
     let empty = store.empty();
     let Some(second) = store.cons_type(b, empty) else {
@@ -31,10 +31,10 @@ pub fn function_type<S: Store>(store: &mut S, fun_name: u64, a: u64, b: u64) -> 
 
 // The type of an application, from the types of the function and of the argument; None where they do not fit.
 pub fn apply_type<S: Store>(store: &mut S, f: u64, x: u64) -> Option<u64>
-    requires function { (c : Ty) × ((state store.old).contents.typ f ≡ some c) }
-    requires argument { (d : Ty) × ((state store.old).contents.typ x ≡ some d) }
-    ensures stays { Stays (state store.old) (state store.new) }
-    ensures cases { (c d : Ty) → (state store.old).contents.typ f ≡ some c → (state store.old).contents.typ x ≡ some d → Finds (λ e n. (state store.new).contents.typ n ≡ some e) (app_ty (some c) (some d)) result }
+    requires function { (c : Ty) × ((S.state store.old).contents.typ f ≡ some c) }
+    requires argument { (d : Ty) × ((S.state store.old).contents.typ x ≡ some d) }
+    ensures stays { Stays (S.state store.old) (S.state store.new) }
+    ensures cases { (c d : Ty) → (S.state store.old).contents.typ f ≡ some c → (S.state store.old).contents.typ x ≡ some d → Finds (λ e n. (S.state store.new).contents.typ n ≡ some e) (app_ty (some c) (some d)) result }
 {
     match arrow(store, f) {
         Some(parts) => {

@@ -113,11 +113,11 @@ fn up<S: Store>(
 ) -> Result<Turn, NoRoom>
     requires stack { Within f.old }
     requires scope { Within scope.old }
-    requires name { (state store.old).contents.word fun_name ≡ some w_fun }
-    requires at { (x : Point) × At (state store.old).contents (held f.old) (held scope.old) (Turn.Up n) x }
+    requires name { (S.state store.old).contents.word fun_name ≡ some w_fun }
+    requires at { (x : Point) × At (S.state store.old).contents (held f.old) (held scope.old) (Turn.Up n) x }
     ensures stack { Goes f.old f.new }
     ensures scope { Goes scope.old scope.new }
-    ensures moves { (th : Theory) (x : Point) (scratch : ℕ) → At (state store.old).contents (held f.old) (held scope.old) (Turn.Up n) x → Answers (Stuck th (capacity f.old) scratch (capacity scope.old) (state store.old) x) (Moved th (state store.old) (state store.new) (held f.new) (held scope.new) x) result }
+    ensures moves { (th : Theory) (x : Point) (scratch : ℕ) → At (S.state store.old).contents (held f.old) (held scope.old) (Turn.Up n) x → Answers (Stuck th (capacity f.old) scratch (capacity scope.old) (S.state store.old) x) (Moved th (S.state store.old) (S.state store.new) (held f.new) (held scope.new) x) result }
 {
     let Some((k, kept)) = f.pop_pair() else {
         return Ok(Turn::End(n));

@@ -24,10 +24,10 @@ use walk::tyvars::tyvars_type;
 // Behind the first `count` of `scratch`, which are names, come the same names, each with a type of the list.
 fn pair<S: Store>(store: &S, scratch: &mut [u64], count: usize, list: u64)
     requires room { 3 * count ≤ length scratch.old }
-    requires names { (ws : List Word) × Names (state store.now).contents (take count scratch.old) ws }
-    requires types { (bs : Tys) × ((state store.now).contents.types list ≡ some bs) × (count_tys bs ≡ count) }
+    requires names { (ws : List Word) × Names (S.state store.now).contents (take count scratch.old) ws }
+    requires types { (bs : Tys) × ((S.state store.now).contents.types list ≡ some bs) × (count_tys bs ≡ count) }
     ensures len { length scratch.new ≡ length scratch.old }
-    ensures entries { (ws : List Word) (bs : Tys) → Names (state store.now).contents (take count scratch.old) ws → (state store.now).contents.types list ≡ some bs → count_tys bs ≡ count → TyEntries (state store.now).contents (take (2 * count) (drop count scratch.new)) (zip ws bs) }
+    ensures entries { (ws : List Word) (bs : Tys) → Names (S.state store.now).contents (take count scratch.old) ws → (S.state store.now).contents.types list ≡ some bs → count_tys bs ≡ count → TyEntries (S.state store.now).contents (take (2 * count) (drop count scratch.new)) (zip ws bs) }
 {
     let mut rest = list;
     let mut at = 0;
@@ -55,11 +55,11 @@ fn instance<S: Store>(
     list: u64,
 ) -> Result<Option<u64>, NoRoom>
     requires stack { top.old ≤ length words.old }
-    requires typ { (b : Ty) × ((state store.old).contents.typ a ≡ some b) }
-    requires types { (bs : Tys) × ((state store.old).contents.types list ≡ some bs) }
+    requires typ { (b : Ty) × ((S.state store.old).contents.typ a ≡ some b) }
+    requires types { (bs : Tys) × ((S.state store.old).contents.types list ≡ some bs) }
     ensures stack { Restores words.old top.old words.new top.new }
     ensures scratch { length scratch.new ≡ length scratch.old }
-    ensures cases { (b : Ty) (bs : Tys) → (state store.old).contents.typ a ≡ some b → (state store.old).contents.types list ≡ some bs → Answers (Tight (length words.old - top.old) (length scratch.old) (nodes_ty b) (state store.old).left (nodes_of (instance b bs))) (Typed (nodes_of (instance b bs)) (state store.old) (state store.new) (instance b bs)) result }
+    ensures cases { (b : Ty) (bs : Tys) → (S.state store.old).contents.typ a ≡ some b → (S.state store.old).contents.types list ≡ some bs → Answers (Tight (length words.old - top.old) (length scratch.old) (nodes_ty b) (S.state store.old).left (nodes_of (instance b bs))) (Typed (nodes_of (instance b bs)) (S.state store.old) (S.state store.new) (instance b bs)) result }
 {
     let mut count = 0;
     tyvars_type(store, words, top, scratch, &mut count, a)?;

@@ -20,8 +20,8 @@ use walk::look::{type_at, types_at};
 
 // How the list begins.
 fn first_type<S: Store>(store: &S, list: u64) -> FirstType
-    requires { (bs : Tys) × ((state store.now).contents.types list ≡ some bs) }
-    ensures { (bs : Tys) → (state store.now).contents.types list ≡ some bs → FirstSays (state store.now).contents bs result }
+    requires { (bs : Tys) × ((S.state store.now).contents.types list ≡ some bs) }
+    ensures { (bs : Tys) → (S.state store.now).contents.types list ≡ some bs → FirstSays (S.state store.now).contents bs result }
 {
     match types_at(store, list) {
         ListView::Nil => FirstType::Missing,

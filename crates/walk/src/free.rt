@@ -22,9 +22,9 @@ pub fn closed<S: Store>(
     t: u64,
 ) -> Result<bool, NoRoom>
     requires stack { top.old ≤ length words.old }
-    requires stands { (u : Tm) × ((state store.now).contents.term t ≡ some u) }
+    requires stands { (u : Tm) × ((S.state store.now).contents.term t ≡ some u) }
     ensures stack { Restores words.old top.old words.new top.new }
-    ensures cases { (u : Tm) → (state store.now).contents.term t ≡ some u → Answers (length words.old - top.old < nodes_tm u) (λ b. b ≡ closed u) result }
+    ensures cases { (u : Tm) → (S.state store.now).contents.term t ≡ some u → Answers (length words.old - top.old < nodes_tm u) (λ b. b ≡ closed u) result }
 {
     let mut pending = Frame::new(words, top);
     if !pending.push(t) {
@@ -44,8 +44,8 @@ pub fn closed<S: Store>(
 
 // Whether the variable of name `y` and type `b` is that of name `x` and type `a`.
 pub fn same_variable<S: Store>(store: &mut S, y: u64, b: u64, x: u64, a: u64) -> bool
-    ensures stays { Stays (state store.old) (state store.new) }
-    ensures same { (v : Word) (d : Ty) (w : Word) (e : Ty) → (state store.old).contents.word y ≡ some v → (state store.old).contents.typ b ≡ some d → (state store.old).contents.word x ≡ some w → (state store.old).contents.typ a ≡ some e → result ≡ same_var v d w e }
+    ensures stays { Stays (S.state store.old) (S.state store.new) }
+    ensures same { (v : Word) (d : Ty) (w : Word) (e : Ty) → (S.state store.old).contents.word y ≡ some v → (S.state store.old).contents.typ b ≡ some d → (S.state store.old).contents.word x ≡ some w → (S.state store.old).contents.typ a ≡ some e → result ≡ same_var v d w e }
 {
     store.same_name(y, x) && store.same_type(b, a)
 }
@@ -60,12 +60,12 @@ pub fn free_in<S: Store>(
     t: u64,
 ) -> Result<bool, NoRoom>
     requires stack { top.old ≤ length words.old }
-    requires name { (y : Word) × ((state store.old).contents.word x ≡ some y) }
-    requires typ { (b : Ty) × ((state store.old).contents.typ a ≡ some b) }
-    requires term { (u : Tm) × ((state store.old).contents.term t ≡ some u) }
+    requires name { (y : Word) × ((S.state store.old).contents.word x ≡ some y) }
+    requires typ { (b : Ty) × ((S.state store.old).contents.typ a ≡ some b) }
+    requires term { (u : Tm) × ((S.state store.old).contents.term t ≡ some u) }
     ensures stack { Restores words.old top.old words.new top.new }
-    ensures stays { Stays (state store.old) (state store.new) }
-    ensures cases { (y : Word) (b : Ty) (u : Tm) → (state store.old).contents.word x ≡ some y → (state store.old).contents.typ a ≡ some b → (state store.old).contents.term t ≡ some u → Answers (length words.old - top.old < nodes_tm u) (λ f. f ≡ free_in y b u) result }
+    ensures stays { Stays (S.state store.old) (S.state store.new) }
+    ensures cases { (y : Word) (b : Ty) (u : Tm) → (S.state store.old).contents.word x ≡ some y → (S.state store.old).contents.typ a ≡ some b → (S.state store.old).contents.term t ≡ some u → Answers (length words.old - top.old < nodes_tm u) (λ f. f ≡ free_in y b u) result }
 {
     let mut pending = Frame::new(words, top);
     if !pending.push(t) {

@@ -12,8 +12,8 @@ use store::Store;
 
 // Whether a name is one of these.
 pub fn among<S: Store>(store: &mut S, name: u64, names: &[u64]) -> bool
-    ensures stays { Stays (state store.old) (state store.new) }
-    ensures found { (w : Word) (ws : List Word) → (state store.old).contents.word name ≡ some w → Names (state store.old).contents names.now ws → result ≡ among w ws }
+    ensures stays { Stays (S.state store.old) (S.state store.new) }
+    ensures found { (w : Word) (ws : List Word) → (S.state store.old).contents.word name ≡ some w → Names (S.state store.old).contents names.now ws → result ≡ among w ws }
 {
     for other in names {
         if store.same_name(name, *other) {
@@ -31,9 +31,9 @@ pub fn insert<S: Store>(
     name: u64,
 ) -> Result<(), NoRoom>
     requires { count.old ≤ length names.old }
-    ensures stays { Stays (state store.old) (state store.new) }
+    ensures stays { Stays (S.state store.old) (S.state store.new) }
     ensures adds { Adds names.old count.old names.new count.new }
-    ensures cases { (w : Word) (ws : List Word) → (state store.old).contents.word name ≡ some w → Names (state store.old).contents (take count.old names.old) ws → Gathers (length names.old - count.old < 1) (state store.new).contents (insert w ws) count.old names.new count.new result }
+    ensures cases { (w : Word) (ws : List Word) → (S.state store.old).contents.word name ≡ some w → Names (S.state store.old).contents (take count.old names.old) ws → Gathers (length names.old - count.old < 1) (S.state store.new).contents (insert w ws) count.old names.new count.new result }
 {
     if among(store, name, &names[0..*count]) {
         return Ok(());

@@ -9,8 +9,8 @@ use store::view::{ListView, TermView, TypeView};
 
 // How the type is made.
 pub fn type_at<S: Store>(store: &S, n: u64) -> TypeView
-    requires { (a : Ty) × ((state store.now).contents.typ n ≡ some a) }
-    ensures { (a : Ty) → (state store.now).contents.typ n ≡ some a → TypeSays (state store.now).contents a (Some result) }
+    requires { (a : Ty) × ((S.state store.now).contents.typ n ≡ some a) }
+    ensures { (a : Ty) → (S.state store.now).contents.typ n ≡ some a → TypeSays (S.state store.now).contents a (Some result) }
 {
     match store.view_type(n) {
         Some(view) => view,
@@ -20,8 +20,8 @@ pub fn type_at<S: Store>(store: &S, n: u64) -> TypeView
 
 // The first type of the list and the rest, or that it is empty.
 pub fn types_at<S: Store>(store: &S, n: u64) -> ListView
-    requires { (bs : Tys) × ((state store.now).contents.types n ≡ some bs) }
-    ensures { (bs : Tys) → (state store.now).contents.types n ≡ some bs → TypesSays (state store.now).contents bs (Some result) }
+    requires { (bs : Tys) × ((S.state store.now).contents.types n ≡ some bs) }
+    ensures { (bs : Tys) → (S.state store.now).contents.types n ≡ some bs → TypesSays (S.state store.now).contents bs (Some result) }
 {
     match store.view_types(n) {
         Some(view) => view,
@@ -31,8 +31,8 @@ pub fn types_at<S: Store>(store: &S, n: u64) -> ListView
 
 // How the term is made.
 pub fn term_at<S: Store>(store: &S, n: u64) -> TermView
-    requires { (t : Tm) × ((state store.now).contents.term n ≡ some t) }
-    ensures { (t : Tm) → (state store.now).contents.term n ≡ some t → TermSays (state store.now).contents t (Some result) }
+    requires { (t : Tm) × ((S.state store.now).contents.term n ≡ some t) }
+    ensures { (t : Tm) → (S.state store.now).contents.term n ≡ some t → TermSays (S.state store.now).contents t (Some result) }
 {
     match store.view_term(n) {
         Some(view) => view,

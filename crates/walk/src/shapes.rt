@@ -13,8 +13,8 @@ use store::view::{ListView, TermView, TypeView};
 
 // The function and the argument of an application.
 pub fn application<S: Store>(store: &S, t: u64) -> Option<Application>
-    requires { (u : Tm) × ((state store.now).contents.term t ≡ some u) }
-    ensures { (u : Tm) → (state store.now).contents.term t ≡ some u → Like (IsApplication (state store.now).contents) (app_of u) result }
+    requires { (u : Tm) × ((S.state store.now).contents.term t ≡ some u) }
+    ensures { (u : Tm) → (S.state store.now).contents.term t ≡ some u → Like (IsApplication (S.state store.now).contents) (app_of u) result }
 {
     match term_at(store, t) {
         TermView::Apply(func, arg) => Some(Application { func, arg }),
@@ -24,8 +24,8 @@ pub fn application<S: Store>(store: &S, t: u64) -> Option<Application>
 
 // The type and the body of a λ.
 pub fn abstraction<S: Store>(store: &S, t: u64) -> Option<Abstraction>
-    requires { (u : Tm) × ((state store.now).contents.term t ≡ some u) }
-    ensures { (u : Tm) → (state store.now).contents.term t ≡ some u → Like (IsAbstraction (state store.now).contents) (lam_of u) result }
+    requires { (u : Tm) × ((S.state store.now).contents.term t ≡ some u) }
+    ensures { (u : Tm) → (S.state store.now).contents.term t ≡ some u → Like (IsAbstraction (S.state store.now).contents) (lam_of u) result }
 {
     match term_at(store, t) {
         TermView::Lambda(ty, body) => Some(Abstraction { ty, body }),
@@ -35,8 +35,8 @@ pub fn abstraction<S: Store>(store: &S, t: u64) -> Option<Abstraction>
 
 // The type of a list that has one.
 fn only_type<S: Store>(store: &S, list: u64) -> Option<u64>
-    requires { (bs : Tys) × ((state store.now).contents.types list ≡ some bs) }
-    ensures { (bs : Tys) → (state store.now).contents.types list ≡ some bs → Like (IsType (state store.now).contents) (only bs) result }
+    requires { (bs : Tys) × ((S.state store.now).contents.types list ≡ some bs) }
+    ensures { (bs : Tys) → (S.state store.now).contents.types list ≡ some bs → Like (IsType (S.state store.now).contents) (only bs) result }
 {
     match types_at(store, list) {
         ListView::Nil => None,
@@ -49,8 +49,8 @@ fn only_type<S: Store>(store: &S, list: u64) -> Option<u64>
 
 // The types of a list that has two.
 fn two_types<S: Store>(store: &S, list: u64) -> Option<FunctionType>
-    requires { (bs : Tys) × ((state store.now).contents.types list ≡ some bs) }
-    ensures { (bs : Tys) → (state store.now).contents.types list ≡ some bs → Like (IsFunctionType (state store.now).contents) (two bs) result }
+    requires { (bs : Tys) × ((S.state store.now).contents.types list ≡ some bs) }
+    ensures { (bs : Tys) → (S.state store.now).contents.types list ≡ some bs → Like (IsFunctionType (S.state store.now).contents) (two bs) result }
 {
     match types_at(store, list) {
         ListView::Nil => None,
@@ -63,8 +63,8 @@ fn two_types<S: Store>(store: &S, list: u64) -> Option<FunctionType>
 
 // The two types of a function type.
 pub fn arrow<S: Store>(store: &S, a: u64) -> Option<FunctionType>
-    requires { (b : Ty) × ((state store.now).contents.typ a ≡ some b) }
-    ensures { (b : Ty) → (state store.now).contents.typ a ≡ some b → Like (IsFunctionType (state store.now).contents) (arrow b) result }
+    requires { (b : Ty) × ((S.state store.now).contents.typ a ≡ some b) }
+    ensures { (b : Ty) → (S.state store.now).contents.typ a ≡ some b → Like (IsFunctionType (S.state store.now).contents) (arrow b) result }
 {
     match type_at(store, a) {
         TypeView::Variable(_) => None,
@@ -80,8 +80,8 @@ pub fn arrow<S: Store>(store: &S, a: u64) -> Option<FunctionType>
 
 // The type at which a term is the constant =.
 fn equality<S: Store>(store: &S, t: u64) -> Option<u64>
-    requires { (u : Tm) × ((state store.now).contents.term t ≡ some u) }
-    ensures { (u : Tm) → (state store.now).contents.term t ≡ some u → Like (IsType (state store.now).contents) (eq_of u) result }
+    requires { (u : Tm) × ((S.state store.now).contents.term t ≡ some u) }
+    ensures { (u : Tm) → (S.state store.now).contents.term t ≡ some u → Like (IsType (S.state store.now).contents) (eq_of u) result }
 {
     match term_at(store, t) {
         TermView::Constant(name, args) => {
@@ -97,8 +97,8 @@ fn equality<S: Store>(store: &S, t: u64) -> Option<u64>
 
 // An equation's type and sides.
 pub fn equation<S: Store>(store: &S, t: u64) -> Option<Equation>
-    requires { (u : Tm) × ((state store.now).contents.term t ≡ some u) }
-    ensures { (u : Tm) → (state store.now).contents.term t ≡ some u → Like (IsEquation (state store.now).contents) (sides u) result }
+    requires { (u : Tm) × ((S.state store.now).contents.term t ≡ some u) }
+    ensures { (u : Tm) → (S.state store.now).contents.term t ≡ some u → Like (IsEquation (S.state store.now).contents) (sides u) result }
 {
     let whole = application(store, t)?;
     let left = application(store, whole.func)?;

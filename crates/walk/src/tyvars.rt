@@ -21,8 +21,8 @@ use store::view::{ListView, TermView, TypeView};
 
 // How the list begins.
 fn first_type<S: Store>(store: &S, list: u64) -> FirstType
-    requires { (bs : Tys) × ((state store.now).contents.types list ≡ some bs) }
-    ensures { (bs : Tys) → (state store.now).contents.types list ≡ some bs → FirstSays (state store.now).contents bs result }
+    requires { (bs : Tys) × ((S.state store.now).contents.types list ≡ some bs) }
+    ensures { (bs : Tys) → (S.state store.now).contents.types list ≡ some bs → FirstSays (S.state store.now).contents bs result }
 {
     match types_at(store, list) {
         ListView::Nil => FirstType::Missing,
@@ -60,12 +60,12 @@ pub fn tyvars_types<S: Store>(
 ) -> Result<(), NoRoom>
     requires stack { top.old ≤ length words.old }
     requires count { count.old ≤ length names.old }
-    requires names { (ws : List Word) × Names (state store.old).contents (take count.old names.old) ws }
-    requires stands { (bs : Tys) × ((state store.old).contents.types list ≡ some bs) }
+    requires names { (ws : List Word) × Names (S.state store.old).contents (take count.old names.old) ws }
+    requires stands { (bs : Tys) × ((S.state store.old).contents.types list ≡ some bs) }
     ensures stack { Restores words.old top.old words.new top.new }
-    ensures stays { Stays (state store.old) (state store.new) }
+    ensures stays { Stays (S.state store.old) (S.state store.new) }
     ensures adds { Adds names.old count.old names.new count.new }
-    ensures cases { (bs : Tys) (ws : List Word) → (state store.old).contents.types list ≡ some bs → Names (state store.old).contents (take count.old names.old) ws → Gathers (Short (length words.old - top.old) (length names.old - count.old) (1 + nodes_tys bs)) (state store.new).contents (tyvars_tys bs ws) count.old names.new count.new result }
+    ensures cases { (bs : Tys) (ws : List Word) → (S.state store.old).contents.types list ≡ some bs → Names (S.state store.old).contents (take count.old names.old) ws → Gathers (Short (length words.old - top.old) (length names.old - count.old) (1 + nodes_tys bs)) (S.state store.new).contents (tyvars_tys bs ws) count.old names.new count.new result }
 {
     let start = *count;
     let mut pending = Frame::new(words, top);
@@ -99,12 +99,12 @@ pub fn tyvars_type<S: Store>(
 ) -> Result<(), NoRoom>
     requires stack { top.old ≤ length words.old }
     requires count { count.old ≤ length names.old }
-    requires names { (ws : List Word) × Names (state store.old).contents (take count.old names.old) ws }
-    requires stands { (b : Ty) × ((state store.old).contents.typ a ≡ some b) }
+    requires names { (ws : List Word) × Names (S.state store.old).contents (take count.old names.old) ws }
+    requires stands { (b : Ty) × ((S.state store.old).contents.typ a ≡ some b) }
     ensures stack { Restores words.old top.old words.new top.new }
-    ensures stays { Stays (state store.old) (state store.new) }
+    ensures stays { Stays (S.state store.old) (S.state store.new) }
     ensures adds { Adds names.old count.old names.new count.new }
-    ensures cases { (b : Ty) (ws : List Word) → (state store.old).contents.typ a ≡ some b → Names (state store.old).contents (take count.old names.old) ws → Gathers (Short (length words.old - top.old) (length names.old - count.old) (nodes_ty b)) (state store.new).contents (tyvars_ty b ws) count.old names.new count.new result }
+    ensures cases { (b : Ty) (ws : List Word) → (S.state store.old).contents.typ a ≡ some b → Names (S.state store.old).contents (take count.old names.old) ws → Gathers (Short (length words.old - top.old) (length names.old - count.old) (nodes_ty b)) (S.state store.new).contents (tyvars_ty b ws) count.old names.new count.new result }
 {
     match type_at(store, a) {
         TypeView::Variable(name) => insert(store, names, count, name),
@@ -122,16 +122,16 @@ fn tyvars_node<S: Store>(
 ) -> Result<(), NoRoom>
     requires within { Within pending.old }
     requires count { count.old ≤ length names.old }
-    requires names { (ws : List Word) × Names (state store.old).contents (take count.old names.old) ws }
-    requires stands { (t : Tm) × TermSays (state store.old).contents t (Some view) }
+    requires names { (ws : List Word) × Names (S.state store.old).contents (take count.old names.old) ws }
+    requires stands { (t : Tm) × TermSays (S.state store.old).contents t (Some view) }
     ensures within { Within pending.new }
     ensures held { held pending.new ≡ held pending.old }
     ensures same { Same pending.old pending.new }
     ensures top_name { pending.new.top.ghost_name ≡ pending.old.top.ghost_name }
     ensures words_name { pending.new.words.ghost_name ≡ pending.old.words.ghost_name }
-    ensures stays { Stays (state store.old) (state store.new) }
+    ensures stays { Stays (S.state store.old) (S.state store.new) }
     ensures adds { Adds names.old count.old names.new count.new }
-    ensures cases { (t : Tm) (ws : List Word) → TermSays (state store.old).contents t (Some view) → Names (state store.old).contents (take count.old names.old) ws → Gathers (Short (capacity pending.old - length (held pending.old)) (length names.old - count.old) (own_nodes t)) (state store.new).contents (own_tyvars t ws) count.old names.new count.new result }
+    ensures cases { (t : Tm) (ws : List Word) → TermSays (S.state store.old).contents t (Some view) → Names (S.state store.old).contents (take count.old names.old) ws → Gathers (Short (capacity pending.old - length (held pending.old)) (length names.old - count.old) (own_nodes t)) (S.state store.new).contents (own_tyvars t ws) count.old names.new count.new result }
 {
     let mut top = *pending.top;
     match view {
@@ -160,12 +160,12 @@ pub fn tyvars_term<S: Store>(
 ) -> Result<(), NoRoom>
     requires stack { top.old ≤ length words.old }
     requires count { count.old ≤ length names.old }
-    requires names { (ws : List Word) × Names (state store.old).contents (take count.old names.old) ws }
-    requires stands { (u : Tm) × ((state store.old).contents.term t ≡ some u) }
+    requires names { (ws : List Word) × Names (S.state store.old).contents (take count.old names.old) ws }
+    requires stands { (u : Tm) × ((S.state store.old).contents.term t ≡ some u) }
     ensures stack { Restores words.old top.old words.new top.new }
-    ensures stays { Stays (state store.old) (state store.new) }
+    ensures stays { Stays (S.state store.old) (S.state store.new) }
     ensures adds { Adds names.old count.old names.new count.new }
-    ensures cases { (u : Tm) (ws : List Word) → (state store.old).contents.term t ≡ some u → Names (state store.old).contents (take count.old names.old) ws → Gathers (Short (length words.old - top.old) (length names.old - count.old) (nodes_tm u)) (state store.new).contents (tyvars_tm u ws) count.old names.new count.new result }
+    ensures cases { (u : Tm) (ws : List Word) → (S.state store.old).contents.term t ≡ some u → Names (S.state store.old).contents (take count.old names.old) ws → Gathers (Short (length words.old - top.old) (length names.old - count.old) (nodes_tm u)) (S.state store.new).contents (tyvars_tm u ws) count.old names.new count.new result }
 {
     let start = *count;
     let mut pending = Frame::new(words, top);

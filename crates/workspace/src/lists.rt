@@ -20,10 +20,10 @@ use walk::free::free_in;
 // The terms of `hs` that are not in `gs`, then those of `gs`.
 pub fn join<S: Store>(store: &mut S, work: &mut Workspace<'_>, hs: u64, gs: u64) -> Option<u64>
     requires clear { work.old.full ≡ false }
-    requires first { (us : List Tm) × ((state store.old).contents.terms hs ≡ some us) }
-    requires second { (vs : List Tm) × ((state store.old).contents.terms gs ≡ some vs) }
+    requires first { (us : List Tm) × ((S.state store.old).contents.terms hs ≡ some us) }
+    requires second { (vs : List Tm) × ((S.state store.old).contents.terms gs ≡ some vs) }
     ensures space { space work.new ≡ space work.old }
-    ensures cases { (us vs : List Tm) → (state store.old).contents.terms hs ≡ some us → (state store.old).contents.terms gs ≡ some vs → Does (Lacks (space work.old) (nodes_tms us) (state store.old).left (nodes_tms (kernel.union us vs))) (Made (nodes_tms (kernel.union us vs)) (state store.old) (state store.new) (IsList (kernel.union us vs))) work.new.full result }
+    ensures cases { (us vs : List Tm) → (S.state store.old).contents.terms hs ≡ some us → (S.state store.old).contents.terms gs ≡ some vs → Does (Lacks (space work.old) (nodes_tms us) (S.state store.old).left (nodes_tms (kernel.union us vs))) (Made (nodes_tms (kernel.union us vs)) (S.state store.old) (S.state store.new) (IsList (kernel.union us vs))) work.new.full result }
 {
     let mut top = 0;
     let answer = union(store, work.words, &mut top, hs, gs);
@@ -40,12 +40,12 @@ pub fn join_without<S: Store>(
     u: u64,
 ) -> Option<u64>
     requires clear { work.old.full ≡ false }
-    requires first { (us : List Tm) × ((state store.old).contents.terms hs ≡ some us) }
-    requires second { (vs : List Tm) × ((state store.old).contents.terms gs ≡ some vs) }
-    requires term { (x : Tm) × ((state store.old).contents.term t ≡ some x) }
-    requires other { (y : Tm) × ((state store.old).contents.term u ≡ some y) }
+    requires first { (us : List Tm) × ((S.state store.old).contents.terms hs ≡ some us) }
+    requires second { (vs : List Tm) × ((S.state store.old).contents.terms gs ≡ some vs) }
+    requires term { (x : Tm) × ((S.state store.old).contents.term t ≡ some x) }
+    requires other { (y : Tm) × ((S.state store.old).contents.term u ≡ some y) }
     ensures space { space work.new ≡ space work.old }
-    ensures cases { (us vs : List Tm) (x y : Tm) → (state store.old).contents.terms hs ≡ some us → (state store.old).contents.terms gs ≡ some vs → (state store.old).contents.term t ≡ some x → (state store.old).contents.term u ≡ some y → Does (Lacks (space work.old) (max (nodes_tms us) (nodes_tms vs)) (state store.old).left (2 * nodes_tms (kernel.union (kernel.remove x us) (kernel.remove y vs)))) (Made (2 * nodes_tms (kernel.union (kernel.remove x us) (kernel.remove y vs))) (state store.old) (state store.new) (IsList (kernel.union (kernel.remove x us) (kernel.remove y vs)))) work.new.full result }
+    ensures cases { (us vs : List Tm) (x y : Tm) → (S.state store.old).contents.terms hs ≡ some us → (S.state store.old).contents.terms gs ≡ some vs → (S.state store.old).contents.term t ≡ some x → (S.state store.old).contents.term u ≡ some y → Does (Lacks (space work.old) (max (nodes_tms us) (nodes_tms vs)) (S.state store.old).left (2 * nodes_tms (kernel.union (kernel.remove x us) (kernel.remove y vs)))) (Made (2 * nodes_tms (kernel.union (kernel.remove x us) (kernel.remove y vs))) (S.state store.old) (S.state store.new) (IsList (kernel.union (kernel.remove x us) (kernel.remove y vs)))) work.new.full result }
 {
     let mut top = 0;
     let removed = remove(store, work.words, &mut top, u, gs);
@@ -64,12 +64,12 @@ pub fn free_in_none<S: Store>(
     hs: u64,
 ) -> Option<()>
     requires clear { work.old.full ≡ false }
-    requires name { (y : Word) × ((state store.old).contents.word x ≡ some y) }
-    requires typ { (b : Ty) × ((state store.old).contents.typ a ≡ some b) }
-    requires list { (us : List Tm) × ((state store.old).contents.terms hs ≡ some us) }
+    requires name { (y : Word) × ((S.state store.old).contents.word x ≡ some y) }
+    requires typ { (b : Ty) × ((S.state store.old).contents.typ a ≡ some b) }
+    requires list { (us : List Tm) × ((S.state store.old).contents.terms hs ≡ some us) }
     ensures space { space work.new ≡ space work.old }
-    ensures stays { Stays (state store.old) (state store.new) }
-    ensures cases { (y : Word) (b : Ty) (us : List Tm) → (state store.old).contents.word x ≡ some y → (state store.old).contents.typ a ≡ some b → (state store.old).contents.terms hs ≡ some us → Tests (Lacks (space work.old) (nodes_tms us) (state store.old).left 0) (not (any (free_in y b) us)) work.new.full result }
+    ensures stays { Stays (S.state store.old) (S.state store.new) }
+    ensures cases { (y : Word) (b : Ty) (us : List Tm) → (S.state store.old).contents.word x ≡ some y → (S.state store.old).contents.typ a ≡ some b → (S.state store.old).contents.terms hs ≡ some us → Tests (Lacks (space work.old) (nodes_tms us) (S.state store.old).left 0) (not (any (free_in y b) us)) work.new.full result }
 {
     let mut rest = hs;
     while let ListView::Cons(h, more) = view(store, rest) {

@@ -27,11 +27,11 @@ pub fn lambda_over<S: Store>(
     t: u64,
 ) -> Option<u64>
     requires clear { work.old.full ≡ false }
-    requires name { (w : Word) × ((state store.old).contents.word x ≡ some w) }
-    requires typ { (b : Ty) × ((state store.old).contents.typ a ≡ some b) }
-    requires term { (u : Tm) × ((state store.old).contents.term t ≡ some u) }
+    requires name { (w : Word) × ((S.state store.old).contents.word x ≡ some w) }
+    requires typ { (b : Ty) × ((S.state store.old).contents.typ a ≡ some b) }
+    requires term { (u : Tm) × ((S.state store.old).contents.term t ≡ some u) }
     ensures space { space work.new ≡ space work.old }
-    ensures cases { (w : Word) (b : Ty) (u : Tm) → (state store.old).contents.word x ≡ some w → (state store.old).contents.typ a ≡ some b → (state store.old).contents.term t ≡ some u → Does (Lacks (space work.old) (nodes_tm u) (state store.old).left (nodes_tm (lambda-over w b u))) (Made (nodes_tm (lambda-over w b u)) (state store.old) (state store.new) (λ c n. c.term n ≡ some (lambda-over w b u))) work.new.full result }
+    ensures cases { (w : Word) (b : Ty) (u : Tm) → (S.state store.old).contents.word x ≡ some w → (S.state store.old).contents.typ a ≡ some b → (S.state store.old).contents.term t ≡ some u → Does (Lacks (space work.old) (nodes_tm u) (S.state store.old).left (nodes_tm (lambda-over w b u))) (Made (nodes_tm (lambda-over w b u)) (S.state store.old) (S.state store.new) (λ c n. c.term n ≡ some (lambda-over w b u))) work.new.full result }
 {
     let mut top = 0;
     let closed = close(store, work.words, &mut top, x, a, t);
@@ -42,10 +42,10 @@ pub fn lambda_over<S: Store>(
 // The term `s` for the variable of the λ around the body `t`.
 pub fn opened<S: Store>(store: &mut S, work: &mut Workspace<'_>, s: u64, t: u64) -> Option<u64>
     requires clear { work.old.full ≡ false }
-    requires term { (v : Tm) × ((state store.old).contents.term s ≡ some v) }
-    requires body { (u : Tm) × ((state store.old).contents.term t ≡ some u) }
+    requires term { (v : Tm) × ((S.state store.old).contents.term s ≡ some v) }
+    requires body { (u : Tm) × ((S.state store.old).contents.term t ≡ some u) }
     ensures space { space work.new ≡ space work.old }
-    ensures cases { (v u : Tm) → (state store.old).contents.term s ≡ some v → (state store.old).contents.term t ≡ some u → Does (Lacks (space work.old) (nodes_tm u) (state store.old).left (nodes_tm (open_at 0 v u))) (Made (nodes_tm (open_at 0 v u)) (state store.old) (state store.new) (λ c n. c.term n ≡ some (open_at 0 v u))) work.new.full result }
+    ensures cases { (v u : Tm) → (S.state store.old).contents.term s ≡ some v → (S.state store.old).contents.term t ≡ some u → Does (Lacks (space work.old) (nodes_tm u) (S.state store.old).left (nodes_tm (open_at 0 v u))) (Made (nodes_tm (open_at 0 v u)) (S.state store.old) (S.state store.new) (λ c n. c.term n ≡ some (open_at 0 v u))) work.new.full result }
 {
     let mut top = 0;
     let answer = open(store, work.words, &mut top, s, t);
@@ -60,10 +60,10 @@ pub fn substituted<S: Store>(
     t: u64,
 ) -> Option<u64>
     requires clear { work.old.full ≡ false }
-    requires entries { (es : Subst) × Entries (state store.old).contents entries.now es }
-    requires term { (u : Tm) × ((state store.old).contents.term t ≡ some u) }
+    requires entries { (es : Subst) × Entries (S.state store.old).contents entries.now es }
+    requires term { (u : Tm) × ((S.state store.old).contents.term t ≡ some u) }
     ensures space { space work.new ≡ space work.old }
-    ensures cases { (es : Subst) (u : Tm) → Entries (state store.old).contents entries.now es → (state store.old).contents.term t ≡ some u → Does (Lacks (space work.old) (nodes_tm u) (state store.old).left (nodes_tm (subst_tm es u))) (Made (nodes_tm (subst_tm es u)) (state store.old) (state store.new) (λ c n. c.term n ≡ some (subst_tm es u))) work.new.full result }
+    ensures cases { (es : Subst) (u : Tm) → Entries (S.state store.old).contents entries.now es → (S.state store.old).contents.term t ≡ some u → Does (Lacks (space work.old) (nodes_tm u) (S.state store.old).left (nodes_tm (subst_tm es u))) (Made (nodes_tm (subst_tm es u)) (S.state store.old) (S.state store.new) (λ c n. c.term n ≡ some (subst_tm es u))) work.new.full result }
 {
     let mut top = 0;
     let answer = subst(store, work.words, &mut top, entries, t);
@@ -78,10 +78,10 @@ pub fn instantiated<S: Store>(
     t: u64,
 ) -> Option<u64>
     requires clear { work.old.full ≡ false }
-    requires entries { (es : TySubst) × TyEntries (state store.old).contents entries.now es }
-    requires term { (u : Tm) × ((state store.old).contents.term t ≡ some u) }
+    requires entries { (es : TySubst) × TyEntries (S.state store.old).contents entries.now es }
+    requires term { (u : Tm) × ((S.state store.old).contents.term t ≡ some u) }
     ensures space { space work.new ≡ space work.old }
-    ensures cases { (es : TySubst) (u : Tm) → TyEntries (state store.old).contents entries.now es → (state store.old).contents.term t ≡ some u → Does (Lacks (space work.old) (nodes_tm u) (state store.old).left (nodes_tm (inst_tm es u))) (Made (nodes_tm (inst_tm es u)) (state store.old) (state store.new) (λ c n. c.term n ≡ some (inst_tm es u))) work.new.full result }
+    ensures cases { (es : TySubst) (u : Tm) → TyEntries (S.state store.old).contents entries.now es → (S.state store.old).contents.term t ≡ some u → Does (Lacks (space work.old) (nodes_tm u) (S.state store.old).left (nodes_tm (inst_tm es u))) (Made (nodes_tm (inst_tm es u)) (S.state store.old) (S.state store.new) (λ c n. c.term n ≡ some (inst_tm es u))) work.new.full result }
 {
     let mut top = 0;
     let answer = inst(store, work.words, &mut top, entries, t);

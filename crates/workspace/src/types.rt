@@ -31,11 +31,11 @@ pub fn type_in<S: Store>(
     t: u64,
 ) -> Option<u64>
     requires clear { work.old.full ≡ false }
-    requires theory { (th : Theory) × Knows theory.now (state store.old).contents th }
-    requires ground { Grounded (state store.old).contents ground }
-    requires term { (u : Tm) × ((state store.old).contents.term t ≡ some u) }
+    requires theory { (th : Theory) × Knows theory.now (S.state store.old).contents th }
+    requires ground { Grounded (S.state store.old).contents ground }
+    requires term { (u : Tm) × ((S.state store.old).contents.term t ≡ some u) }
     ensures space { space work.new ≡ space work.old }
-    ensures cases { (th : Theory) (u : Tm) → Knows theory.now (state store.old).contents th → (state store.old).contents.term t ≡ some u → Serves (Lacks (space work.old) (nodes_tm u + widest th) (state store.old).left (types_built th [] u)) (λ a. Made (types_built th [] u) (state store.old) (state store.new) (λ c n. c.typ n ≡ some a)) (typed th u) work.new.full result }
+    ensures cases { (th : Theory) (u : Tm) → Knows theory.now (S.state store.old).contents th → (S.state store.old).contents.term t ≡ some u → Serves (Lacks (space work.old) (nodes_tm u + widest th) (S.state store.old).left (types_built th [] u)) (λ a. Made (types_built th [] u) (S.state store.old) (S.state store.new) (λ c n. c.typ n ≡ some a)) (typed th u) work.new.full result }
 {
     let third = work.words.len() / 3;
     let (stack, rest) = work.words.split_at_mut(third);
@@ -66,13 +66,13 @@ pub fn has_type<S: Store>(
     a: u64,
 ) -> Option<()>
     requires clear { work.old.full ≡ false }
-    requires theory { (th : Theory) × Knows theory.now (state store.old).contents th }
-    requires ground { Grounded (state store.old).contents ground }
-    requires term { (u : Tm) × ((state store.old).contents.term t ≡ some u) }
-    requires typ { (b : Ty) × ((state store.old).contents.typ a ≡ some b) }
+    requires theory { (th : Theory) × Knows theory.now (S.state store.old).contents th }
+    requires ground { Grounded (S.state store.old).contents ground }
+    requires term { (u : Tm) × ((S.state store.old).contents.term t ≡ some u) }
+    requires typ { (b : Ty) × ((S.state store.old).contents.typ a ≡ some b) }
     ensures space { space work.new ≡ space work.old }
-    ensures grows { (th : Theory) (u : Tm) → Knows theory.now (state store.old).contents th → (state store.old).contents.term t ≡ some u → result ≡ Some tt → Grows (types_built th [] u) (state store.old) (state store.new) }
-    ensures cases { (th : Theory) (u : Tm) (b : Ty) → Knows theory.now (state store.old).contents th → (state store.old).contents.term t ≡ some u → (state store.old).contents.typ a ≡ some b → Tests (Lacks (space work.old) (nodes_tm u + widest th) (state store.old).left (types_built th [] u)) (has-typed th u b) work.new.full result }
+    ensures grows { (th : Theory) (u : Tm) → Knows theory.now (S.state store.old).contents th → (S.state store.old).contents.term t ≡ some u → result ≡ Some tt → Grows (types_built th [] u) (S.state store.old) (S.state store.new) }
+    ensures cases { (th : Theory) (u : Tm) (b : Ty) → Knows theory.now (S.state store.old).contents th → (S.state store.old).contents.term t ≡ some u → (S.state store.old).contents.typ a ≡ some b → Tests (Lacks (space work.old) (nodes_tm u + widest th) (S.state store.old).left (types_built th [] u)) (has-typed th u b) work.new.full result }
 {
     let b = type_in(store, work, theory, ground, t)?;
     if store.same_type(a, b) {
@@ -90,11 +90,11 @@ pub fn ok_in<S: Store>(
     a: u64,
 ) -> Option<()>
     requires clear { work.old.full ≡ false }
-    requires theory { (th : Theory) × Knows theory.now (state store.old).contents th }
-    requires typ { (b : Ty) × ((state store.old).contents.typ a ≡ some b) }
+    requires theory { (th : Theory) × Knows theory.now (S.state store.old).contents th }
+    requires typ { (b : Ty) × ((S.state store.old).contents.typ a ≡ some b) }
     ensures space { space work.new ≡ space work.old }
-    ensures stays { Stays (state store.old) (state store.new) }
-    ensures cases { (th : Theory) (b : Ty) → Knows theory.now (state store.old).contents th → (state store.old).contents.typ a ≡ some b → Tests (Lacks (space work.old) (nodes_ty b) (state store.old).left 0) (ok_ty th b) work.new.full result }
+    ensures stays { Stays (S.state store.old) (S.state store.new) }
+    ensures cases { (th : Theory) (b : Ty) → Knows theory.now (S.state store.old).contents th → (S.state store.old).contents.typ a ≡ some b → Tests (Lacks (space work.old) (nodes_ty b) (S.state store.old).left 0) (ok_ty th b) work.new.full result }
 {
     let mut top = 0;
     let answer = ok_type(store, theory, work.words, &mut top, a);
@@ -110,11 +110,11 @@ pub fn constant_type<S: Store>(
     list: u64,
 ) -> Option<u64>
     requires clear { work.old.full ≡ false }
-    requires theory { (th : Theory) × Knows theory.now (state store.old).contents th }
-    requires word { (w : Word) × ((state store.old).contents.word name ≡ some w) }
-    requires types { (bs : Tys) × ((state store.old).contents.types list ≡ some bs) }
+    requires theory { (th : Theory) × Knows theory.now (S.state store.old).contents th }
+    requires word { (w : Word) × ((S.state store.old).contents.word name ≡ some w) }
+    requires types { (bs : Tys) × ((S.state store.old).contents.types list ≡ some bs) }
     ensures space { space work.new ≡ space work.old }
-    ensures cases { (th : Theory) (w : Word) (bs : Tys) → Knows theory.now (state store.old).contents th → (state store.old).contents.word name ≡ some w → (state store.old).contents.types list ≡ some bs → Serves (Lacks (space work.old) (widest th + nodes_tys bs) (state store.old).left (nodes_of (type_at th w bs))) (λ a. Made (nodes_ty a) (state store.old) (state store.new) (λ c n. c.typ n ≡ some a)) (type_at th w bs) work.new.full result }
+    ensures cases { (th : Theory) (w : Word) (bs : Tys) → Knows theory.now (S.state store.old).contents th → (S.state store.old).contents.word name ≡ some w → (S.state store.old).contents.types list ≡ some bs → Serves (Lacks (space work.old) (widest th + nodes_tys bs) (S.state store.old).left (nodes_of (type_at th w bs))) (λ a. Made (nodes_ty a) (S.state store.old) (S.state store.new) (λ c n. c.typ n ≡ some a)) (type_at th w bs) work.new.full result }
 {
     let half = work.words.len() / 2;
     let (stack, scratch) = work.words.split_at_mut(half);

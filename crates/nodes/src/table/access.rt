@@ -1,7 +1,7 @@
 // The table's functions: making it, adding a node, reading one, giving back.
 ghost use Rattle.std.specs.Prelude.{◌≡◌, ℕ, ◌+◌, ◌-◌, ◌*◌, ◌/◌, ◌≤◌, length};
 ghost use Rattle.nodes.specs.Table.{Puts, rows_of};
-ghost use Rattle.nodes.specs.Meaning.{state_of, made, «IsMade», Gets, Sized};
+ghost use Rattle.nodes.specs.Meaning.{state_of, made, IsMade, Gets, Sized};
 ghost use Rattle.std.proofs.Math.Option.{some};
 ghost use Rattle.nodes.specs.Items.{Item, tree_size};
 ghost use Rattle.store.specs.Builds.{Builds};
@@ -96,7 +96,7 @@ impl Nodes<'_> {
 
     // Adds a node of this kind and with these parts, and gives its number.
     pub fn put(&mut self, kind: Kind, x: u64, y: u64) -> Option<u64>
-        ensures { Builds 1 (state_of self.old) (state_of self.new) («IsMade» kind x y) result }
+        ensures { Builds 1 (state_of self.old) (state_of self.new) (IsMade kind x y) result }
     {
         let size = self.size_of(kind, x, y);
         self.push(Node { kind, x, y, size })

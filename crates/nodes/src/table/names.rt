@@ -1,7 +1,7 @@
 // Names: a node for each byte, from the last to the first.
 ghost use Rattle.std.specs.Prelude.{◌+◌, length};
 ghost use Rattle.nodes.specs.Meaning.{state_of};
-ghost use Rattle.store.specs.Builds.{Builds, «IsWord», «IsLetter»};
+ghost use Rattle.store.specs.Builds.{Builds, IsWord, IsLetter};
 
 use crate::kind::Kind;
 use crate::table::{EMPTY, Nodes};
@@ -9,7 +9,7 @@ use crate::table::{EMPTY, Nodes};
 impl Nodes<'_> {
     // The name with these bytes.
     pub fn name(&mut self, w: &[u8]) -> Option<u64>
-        ensures { Builds (length w.now) (state_of self.old) (state_of self.new) («IsWord» w.now) result }
+        ensures { Builds (length w.now) (state_of self.old) (state_of self.new) (IsWord w.now) result }
     {
         if self.left() < w.len() {
             return None;
@@ -26,7 +26,7 @@ impl Nodes<'_> {
 
     // The type variable whose name has these bytes.
     pub fn letter(&mut self, w: &[u8]) -> Option<u64>
-        ensures { Builds (1 + length w.now) (state_of self.old) (state_of self.new) («IsLetter» w.now) result }
+        ensures { Builds (1 + length w.now) (state_of self.old) (state_of self.new) (IsLetter w.now) result }
     {
         if self.left() <= w.len() {
             return None;

@@ -5,67 +5,67 @@ use Rattle.parser_types.proofs.Refused.{refused}
 use Rattle.parser_types.proofs.Single.{given_token}
 use Rattle.parser_types.proofs.advance.Goals as goal
 
-pub returns-in-default : goal.returns-in-default
-returns-in-default g c = record {
+pub returns-in_default : goal.returns-in_default
+returns-in_default g c = record {
   within = c.requires;
   same = unmoved c.args.f.now;
   top_name = refl;
   words_name = refl;
-  moves = λ qs x at. absurd (no_token at c.in-default.ensures.0);
+  moves = λ qs x at. absurd (no_token at c.in_default.ensures.0);
   falls = omega arith;
 }
 
-pub returns-in-err-a : goal.returns-in-err-a
-returns-in-err-a g c = record {
+pub returns-in_err-a : goal.returns-in_err-a
+returns-in_err-a g c = record {
   within = c.requires;
   same = unmoved c.args.f.now;
   top_name = refl;
   words_name = refl;
   moves = λ qs x at.
-      refused _ c.from-residual.result c.from-residual.ensures.0
-      (inl (word-short at (given_token c.in-Some.ensures c.in-Word.is) c.in-err-a.ensures));
-  falls = refused _ c.from-residual.result c.from-residual.ensures.0 tt;
+      refused _ c.from_residual.result c.from_residual.ensures.0
+      (inl (word-short at (given_token c.in-Some.ensures c.in-Word.is) c.in_err-a.ensures));
+  falls = refused _ c.from_residual.result c.from_residual.ensures.0 tt;
 }
 
-pub returns-in-err-opened : goal.returns-in-err-opened
-returns-in-err-opened g c = record {
+pub returns-in_err-opened : goal.returns-in_err-opened
+returns-in_err-opened g c = record {
   within = c.requires;
   same = unmoved c.args.f.now;
   top_name = refl;
   words_name = refl;
   moves = λ qs x at.
-      refused _ c.from-residual-in-err-opened.result c.from-residual-in-err-opened.ensures.0
-      (inl (bracket_short at (given_token c.in-Some.ensures c.in-Open.is) c.in-err-opened.ensures));
-  falls = refused _ c.from-residual-in-err-opened.result c.from-residual-in-err-opened.ensures.0 tt;
+      refused _ c.from_residual-in_err-opened.result c.from_residual-in_err-opened.ensures.0
+      (inl (bracket_short at (given_token c.in-Some.ensures c.in-Open.is) c.in_err-opened.ensures));
+  falls = refused _ c.from_residual-in_err-opened.result c.from_residual-in_err-opened.ensures.0 tt;
 }
 
-pub returns-in-default-opened : goal.returns-in-default-opened
-returns-in-default-opened g c = record {
+pub returns-in_default-opened : goal.returns-in_default-opened
+returns-in_default-opened g c = record {
   within = c.requires;
   same = unmoved c.args.f.now;
   top_name = refl;
   words_name = refl;
   moves = λ qs x at.
-      bracket_unnamed at (given_token c.in-Some.ensures c.in-Open.is) (rw c.in-default-opened.is at c.in-ok-opened.ensures);
+      bracket_unnamed at (given_token c.in-Some.ensures c.in-Open.is) (rw c.in_default-opened.is at c.in_ok-opened.ensures);
   falls = omega arith;
 }
 
-pub returns-then-push-all : goal.returns-then-push-all
-returns-then-push-all g c =
-    let p = c.if-push-all.ensures in
+pub returns-then-push_all : goal.returns-then-push_all
+returns-then-push_all g c =
+    let p = c.if-push_all.ensures in
     let q = given_token c.in-Some.ensures c.in-Word.is in
     record {
       within = p.within;
       same = p.same;
       top_name = p.top_name;
       words_name = p.words_name;
-      moves = λ qs x at. word_read at q c.in-ok-a.ensures p.cases;
+      moves = λ qs x at. word_read at q c.in_ok-a.ensures p.cases;
       falls = omega (arith, ap length p.cases, ap length q);
     }
 
-pub returns-else-push-all : goal.returns-else-push-all
-returns-else-push-all g c =
-    let p = c.if-push-all.ensures in
+pub returns-else-push_all : goal.returns-else-push_all
+returns-else-push_all g c =
+    let p = c.if-push_all.ensures in
     record {
       within = p.within;
       same = p.same;
@@ -75,11 +75,11 @@ returns-else-push-all g c =
       falls = tt;
     }
 
-pub returns-then-push-all-2 : goal.returns-then-push-all-2
-returns-then-push-all-2 g c =
-    let p = c.if-push-all-2.ensures in
+pub returns-then-push_all-2 : goal.returns-then-push_all-2
+returns-then-push_all-2 g c =
+    let p = c.if-push_all-2.ensures in
     let q = given_token c.in-Some.ensures c.in-Open.is in
-    let b = rw c.in-Some-opened.is at c.in-ok-opened.ensures in
+    let b = rw c.in-Some-opened.is at c.in_ok-opened.ensures in
     record {
       within = p.within;
       same = p.same;
@@ -89,10 +89,10 @@ returns-then-push-all-2 g c =
       falls = omega (arith, ap length p.cases, ap length q, ap length b.ahead);
     }
 
-pub returns-else-push-all-2 : goal.returns-else-push-all-2
-returns-else-push-all-2 g c =
-    let p = c.if-push-all-2.ensures in
-    let b = rw c.in-Some-opened.is at c.in-ok-opened.ensures in
+pub returns-else-push_all-2 : goal.returns-else-push_all-2
+returns-else-push_all-2 g c =
+    let p = c.if-push_all-2.ensures in
+    let b = rw c.in-Some-opened.is at c.in_ok-opened.ensures in
     record {
       within = p.within;
       same = p.same;

@@ -3,9 +3,9 @@ use Rattle.stack.proofs.Lent.{same_trans, same-capacity}
 use Rattle.parser_types.proofs.Steps.{list-ended, argument_collected, argument_short, bracket_collected, bracket_refull}
 use Rattle.parser_types.proofs.collect.Goals as goal
 
-pub returns-in-default : goal.returns-in-default
-returns-in-default g c =
-    let p = c.in-default.ensures in
+pub returns-in_default : goal.returns-in_default
+returns-in_default g c =
+    let p = c.in_default.ensures in
     record {
       within = p.within;
       same = p.same;
@@ -15,27 +15,27 @@ returns-in-default g c =
       falls = λ ps. omega arith;
     }
 
-pub returns-in-default-type-named : goal.returns-in-default-type-named
-returns-in-default-type-named g c =
+pub returns-in_default-type_named : goal.returns-in_default-type_named
+returns-in_default-type_named g c =
     let p = c.in-Some.ensures in
     record {
       within = p.within;
       same = p.same;
       top_name = p.top_name;
       words_name = p.words_name;
-      moves = λ ps qs x at. inl (argument_short p.cases at c.in-default-type-named.ensures);
+      moves = λ ps qs x at. inl (argument_short p.cases at c.in_default-type_named.ensures);
       falls = λ ps. tt;
     }
 
-pub returns-in-Some-cons-type : goal.returns-in-Some-cons-type
-returns-in-Some-cons-type g c =
+pub returns-in-Some-cons_type : goal.returns-in-Some-cons_type
+returns-in-Some-cons_type g c =
     let p = c.in-Some.ensures in
     record {
       within = p.within;
       same = p.same;
       top_name = p.top_name;
       words_name = p.words_name;
-      moves = λ ps qs x at. argument_collected p.cases at c.in-Argument.ensures c.in-Some-cons-type.ensures;
+      moves = λ ps qs x at. argument_collected p.cases at c.in-Argument.ensures c.in-Some-cons_type.ensures;
       falls = λ ps. omega (arith, ap length p.cases);
     }
 
@@ -51,24 +51,24 @@ returns-in-None g c =
       falls = λ ps. tt;
     }
 
-pub returns-then-push-all : goal.returns-then-push-all
-returns-then-push-all g c =
+pub returns-then-push_all : goal.returns-then-push_all
+returns-then-push_all g c =
     let p = c.in-Some.ensures in
-    let q = c.if-push-all.ensures in
+    let q = c.if-push_all.ensures in
     record {
       within = q.within;
       same = same_trans p.same q.same;
       top_name = q.top_name ∙ p.top_name;
       words_name = q.words_name ∙ p.words_name;
       moves = λ ps qs x at.
-          bracket_collected p.cases at c.in-Bracket.ensures c.in-Some-type-named.ensures q.cases;
+          bracket_collected p.cases at c.in-Bracket.ensures c.in-Some-type_named.ensures q.cases;
       falls = λ ps. omega (arith, ap length p.cases, ap length q.cases);
     }
 
-pub returns-else-push-all : goal.returns-else-push-all
-returns-else-push-all g c =
+pub returns-else-push_all : goal.returns-else-push_all
+returns-else-push_all g c =
     let p = c.in-Some.ensures in
-    let q = c.if-push-all.ensures in
+    let q = c.if-push_all.ensures in
     record {
       within = q.within;
       same = same_trans p.same q.same;

@@ -11,11 +11,11 @@ loop-byte-preserved c =
     goes_on c.args.text.now c.loop-byte.byte-index c.loop-byte.reader c.loop-byte.invariant (omega arith)
     c.step.new.self c.in_ok-step.ensures
 
-pub returns-in-err-step : goal.returns-in-err-step
-returns-in-err-step c =
-    refuses c.args.text.now c.from-residual.result c.from-residual.ensures.0
+pub returns-in_err-step : goal.returns-in_err-step
+returns-in_err-step c =
+    refuses c.args.text.now c.from_residual.result c.from_residual.ensures.0
     (breaks c.args.text.now c.loop-byte.byte-index c.loop-byte.reader c.loop-byte.invariant (omega arith)
-    c.step.new.self c.in-err-step.field-0.0 c.in-err-step.ensures)
+    c.step.new.self c.in_err-step.field-0.0 c.in_err-step.ensures)
 
 pub returns : goal.returns
 returns c =

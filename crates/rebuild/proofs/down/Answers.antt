@@ -11,38 +11,38 @@ returns-in-Free g c =
     let st = g.S.Store.state in
     let s = st c.args.store.now in
     let f = c.args.f.now in
-    let p = c.at-leaf.ensures in
+    let p = c.at_leaf.ensures in
     record {
       within = p.within;
       same = p.same;
       top_name = p.top_name;
       words_name = p.words_name;
       moves = λ F d x e at a.
-          going_down (λ y. Moves F d (capacity f) s (st c.at-leaf.new.store) (held c.at-leaf.new.f) y c.at-leaf.result) at
+          going_down (λ y. Moves F d (capacity f) s (st c.at_leaf.new.store) (held c.at_leaf.new.f) y c.at_leaf.result) at
           (λ o u i h q. p.moves F d o u e i (leaf_seen s.contents u c.in-Some.view c.in-Free.is (c.in-Some.ensures u i)) h q);
     }
 
-pub returns-then-push-all : goal.returns-then-push-all
-returns-then-push-all g c =
+pub returns-then-push_all : goal.returns-then-push_all
+returns-then-push_all g c =
     let s = g.S.Store.state c.args.store.now in
     let f = c.args.f.now in
-    let p = c.if-push-all.ensures in
+    let p = c.if-push_all.ensures in
     record {
       within = p.within;
       same = p.same;
       top_name = p.top_name;
       words_name = p.words_name;
       moves = λ F d x e at a.
-          going_down (λ y. Moved F d s s (held c.push-all.new.self) y (Down c.in-Apply.g c.args.depth)) at
+          going_down (λ y. Moved F d s s (held c.push_all.new.self) y (Down c.in-Apply.g c.args.depth)) at
           (λ o u i h q. into_apply F d s s (held f) o h c.args.depth q u c.in-Apply.g c.in-Apply.x
-          (rw c.in-Apply.is at (c.in-Some.ensures u i)) (held c.push-all.new.self) p.cases);
+          (rw c.in-Apply.is at (c.in-Some.ensures u i)) (held c.push_all.new.self) p.cases);
     }
 
-pub returns-else-push-all : goal.returns-else-push-all
-returns-else-push-all g c =
+pub returns-else-push_all : goal.returns-else-push_all
+returns-else-push_all g c =
     let s = g.S.Store.state c.args.store.now in
     let f = c.args.f.now in
-    let p = c.if-push-all.ensures in
+    let p = c.if-push_all.ensures in
     record {
       within = p.within;
       same = p.same;

@@ -27,16 +27,16 @@ step-requires g c =
 
 pub loop-turn-preserved : goal.loop-turn-preserved
 loop-turn-preserved g c =
-    let p = c.in-ok-turn.ensures in
-    again c.loop-turn.f c.step.new.f c.loop-turn.invariant c.requires.shallow c.in-default.not-End p.moves
+    let p = c.in_ok-turn.ensures in
+    again c.loop-turn.f c.step.new.f c.loop-turn.invariant c.requires.shallow c.in_default.not-End p.moves
     (g.met.L.Leaf.stays c.args.leaf.now c.args.entries.now) p.within p.same p.top_name p.words_name
 
 pub loop-turn-smaller : goal.loop-turn-smaller
 loop-turn-smaller g c =
-    let p = c.in-ok-turn.ensures in
+    let p = c.in_ok-turn.ensures in
     let F = c.requires.does in
     let x = c.requires.stands in
-    less c.loop-turn.f c.step.new.f c.loop-turn.invariant c.requires.shallow c.in-default.not-End p.moves F.0 x.0 F.1 x.1
+    less c.loop-turn.f c.step.new.f c.loop-turn.invariant c.requires.shallow c.in_default.not-End p.moves F.0 x.0 F.1 x.1
 
 pub returns-in-End : goal.returns-in-End
 returns-in-End g c =
@@ -45,16 +45,16 @@ returns-in-End g c =
       made = λ F x e i. arrives (rw c.in-End.is at (c.loop-turn.invariant.ways F x e i));
     }
 
-pub returns-in-err-turn : goal.returns-in-err-turn
-returns-in-err-turn g c =
+pub returns-in_err-turn : goal.returns-in_err-turn
+returns-in_err-turn g c =
     let k = c.loop-turn.invariant in
-    let p = c.in-err-turn.ensures in
+    let p = c.in_err-turn.ensures in
     record {
       stack = search rules;
       made = λ F x e i.
           let w = k.ways F x e i in
-          rw (an_err c.from-residual.result c.from-residual.ensures.0).1
+          rw (an_err c.from_residual.result c.from_residual.ensures.0).1
           (refused (length c.args.words.now - c.args.top.now) (capacity c.loop-turn.f) w
           (room c.new-f.ensures.base c.new-f.ensures.words k.same)
-          (p.moves F c.args.depth w.to w.does w.at c.requires.shallow (going w.at c.in-default.not-End)));
+          (p.moves F c.args.depth w.to w.does w.at c.requires.shallow (going w.at c.in_default.not-End)));
     }

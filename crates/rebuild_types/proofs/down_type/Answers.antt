@@ -4,15 +4,15 @@ use Rattle.stack.proofs.Words.{unmoved}
 use Rattle.rebuild_types.proofs.down_type.Goals as goal
 use Rattle.rebuild_types.proofs.Steps.{no_type, found_variable, kept_variable, into_named, named_stuck}
 
-pub returns-in-default : goal.returns-in-default
-returns-in-default g c =
+pub returns-in_default : goal.returns-in_default
+returns-in_default g c =
     let s = g.S.Store.state c.args.store.now in
     record {
       within = c.requires;
       same = unmoved c.args.f.now;
       top_name = refl;
       words_name = refl;
-      moves = λ es x e at. absurd (no_type es s s (held c.args.f.now) c.args.a at c.in-default.ensures);
+      moves = λ es x e at. absurd (no_type es s s (held c.args.f.now) c.args.a at c.in_default.ensures);
     }
 
 pub returns-in-Some-find : goal.returns-in-Some-find
@@ -45,24 +45,24 @@ returns-in-None g c =
           (λ w i. c.in-None.ensures.cases es w e i);
     }
 
-pub returns-then-push-all : goal.returns-then-push-all
-returns-then-push-all g c =
+pub returns-then-push_all : goal.returns-then-push_all
+returns-then-push_all g c =
     let s = g.S.Store.state c.args.store.now in
-    let p = c.if-push-all.ensures in
+    let p = c.if-push_all.ensures in
     record {
       within = p.within;
       same = p.same;
       top_name = p.top_name;
       words_name = p.words_name;
       moves = λ es x e at.
-          into_named es s s (held c.args.f.now) c.args.a c.in-Named.name c.in-Named.args (held c.push-all.new.self) at
+          into_named es s s (held c.args.f.now) c.args.a c.in-Named.name c.in-Named.args (held c.push_all.new.self) at
           (λ a i. rw c.in-Named.is at (c.in-Some.ensures a i)) p.cases;
     }
 
-pub returns-else-push-all : goal.returns-else-push-all
-returns-else-push-all g c =
+pub returns-else-push_all : goal.returns-else-push_all
+returns-else-push_all g c =
     let s = g.S.Store.state c.args.store.now in
-    let p = c.if-push-all.ensures in
+    let p = c.if-push_all.ensures in
     record {
       within = p.within;
       same = p.same;

@@ -20,15 +20,15 @@ step-requires g c = c.loop-turn.invariant.within
 
 pub loop-turn-preserved : goal.loop-turn-preserved
 loop-turn-preserved g c =
-    let p = c.in-ok-turn.ensures in
-    again c.loop-turn.f c.step.new.f c.loop-turn.invariant c.in-default.not-End p.moves p.within p.same p.top_name p.words_name
+    let p = c.in_ok-turn.ensures in
+    again c.loop-turn.f c.step.new.f c.loop-turn.invariant c.in_default.not-End p.moves p.within p.same p.top_name p.words_name
 
 pub loop-turn-smaller : goal.loop-turn-smaller
 loop-turn-smaller g c =
-    let p = c.in-ok-turn.ensures in
+    let p = c.in_ok-turn.ensures in
     let e = c.requires.entries in
     let x = c.requires.start in
-    less c.loop-turn.f c.step.new.f c.loop-turn.invariant c.in-default.not-End p.moves e.0 x.0 x.1 e.1 x.2
+    less c.loop-turn.f c.step.new.f c.loop-turn.invariant c.in_default.not-End p.moves e.0 x.0 x.1 e.1 x.2
 
 pub returns-in-End : goal.returns-in-End
 returns-in-End g c =
@@ -37,15 +37,15 @@ returns-in-End g c =
       made = λ es k y e at. arrives k y (rw c.in-End.is at (c.loop-turn.invariant.ways es k y e at));
     }
 
-pub returns-in-err-turn : goal.returns-in-err-turn
-returns-in-err-turn g c =
+pub returns-in_err-turn : goal.returns-in_err-turn
+returns-in_err-turn g c =
     let k = c.loop-turn.invariant in
-    let p = c.in-err-turn.ensures in
+    let p = c.in_err-turn.ensures in
     record {
       stack = search rules;
       made = λ es o y e at.
           let w = k.ways es o y e at in
-          rw (an_err c.from-residual.result c.from-residual.ensures.0).1
+          rw (an_err c.from_residual.result c.from_residual.ensures.0).1
           (refused (length c.args.words.now - c.args.top.now) (capacity c.loop-turn.f) o y w (room c.new-f.ensures.base c.new-f.ensures.words k.same)
-          (p.moves es w.to w.entered w.at (going w.at c.in-default.not-End)));
+          (p.moves es w.to w.entered w.at (going w.at c.in_default.not-End)));
     }

@@ -5,7 +5,7 @@ use Rattle.rebuild_types.proofs.Loop.{still}
 
 pub returns-in-DownType : goal.returns-in-DownType
 returns-in-DownType g c =
-    let p = c.down-type.ensures in
+    let p = c.down_type.ensures in
     record {
       within = p.within;
       same = p.same;
@@ -16,7 +16,7 @@ returns-in-DownType g c =
 
 pub returns-in-DownTypes : goal.returns-in-DownTypes
 returns-in-DownTypes g c =
-    let p = c.down-types.ensures in
+    let p = c.down_types.ensures in
     record {
       within = p.within;
       same = p.same;

@@ -30,8 +30,8 @@ impl Wanted {
 impl Row {
     // Whether the row's declaration has this name and is wanted.
     fn fits<S: Store>(self, store: &mut S, wanted: Wanted, name: u64) -> bool
-        ensures stays { Stays (state store.old) (state store.new) }
-        ensures tells { (w : Word) (d : Decl) → (state store.old).contents.word name ≡ some w → Says (state store.old).contents self d → result ≡ (finds wanted (decl_kind d) && same_word w (decl_name d)) }
+        ensures stays { Stays (S.state store.old) (S.state store.new) }
+        ensures tells { (w : Word) (d : Decl) → (S.state store.old).contents.word name ≡ some w → Says (S.state store.old).contents self d → result ≡ (finds wanted (decl_kind d) && same_word w (decl_name d)) }
     {
         if wanted.takes(self.kind) {
             store.same_name(name, self.name)
@@ -44,8 +44,8 @@ impl Row {
 impl Decls<'_> {
     // The row of the newest declaration of this name among what is wanted.
     pub(super) fn find<S: Store>(&self, store: &mut S, wanted: Wanted, name: u64) -> Option<Row>
-        ensures stays { Stays (state store.old) (state store.new) }
-        ensures found { (th : Theory) (w : Word) → Knows self.now (state store.old).contents th → (state store.old).contents.word name ≡ some w → Finds (λ d k. Says (state store.old).contents k d) (newest wanted w th) result }
+        ensures stays { Stays (S.state store.old) (S.state store.new) }
+        ensures found { (th : Theory) (w : Word) → Knows self.now (S.state store.old).contents th → (S.state store.old).contents.word name ≡ some w → Finds (λ d k. Says (S.state store.old).contents k d) (newest wanted w th) result }
     {
         for i in (0..self.used).rev() {
             let row = self.row(i);

@@ -19,8 +19,8 @@ use store::Store;
 impl Decls<'_> {
     // The type and the body of the definition of this name.
     pub fn find_def<S: Store>(&self, store: &mut S, name: u64) -> Option<(u64, u64)>
-        ensures stays { Stays (state store.old) (state store.new) }
-        ensures found { (th : Theory) (w : Word) → Knows self.now (state store.old).contents th → (state store.old).contents.word name ≡ some w → Finds (DefAt (state store.old).contents) (find_def th w) result }
+        ensures stays { Stays (S.state store.old) (S.state store.new) }
+        ensures found { (th : Theory) (w : Word) → Knows self.now (S.state store.old).contents th → (S.state store.old).contents.word name ≡ some w → Finds (DefAt (S.state store.old).contents) (find_def th w) result }
     {
         match self.find(store, Wanted::Definitions, name) {
             Some(def) => Some((def.first, def.second)),
@@ -30,8 +30,8 @@ impl Decls<'_> {
 
     // The list of assumptions and the conclusion of the axiom or theorem of this name.
     pub fn known<S: Store>(&self, store: &mut S, name: u64) -> Option<(u64, u64)>
-        ensures stays { Stays (state store.old) (state store.new) }
-        ensures found { (th : Theory) (w : Word) → Knows self.now (state store.old).contents th → (state store.old).contents.word name ≡ some w → Finds (SeqAt (state store.old).contents) (known-seq th w) result }
+        ensures stays { Stays (S.state store.old) (S.state store.new) }
+        ensures found { (th : Theory) (w : Word) → Knows self.now (S.state store.old).contents th → (S.state store.old).contents.word name ≡ some w → Finds (SeqAt (S.state store.old).contents) (known-seq th w) result }
     {
         let no_hyps = store.empty();
         match self.find(store, Wanted::Sequents, name) {

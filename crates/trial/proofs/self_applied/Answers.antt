@@ -1,8 +1,8 @@
 use Rattle.trial.proofs.self_applied.Goals as goal
 use Rattle.trial.proofs.Chain.{short_free, applied}
 
-pub returns-in-err-v : goal.returns-in-err-v
-returns-in-err-v g c = rw c.from-residual-in-err-v.ensures (short_free c.in-ok-a.ensures.grows c.in-ok-x.ensures.grows c.in-err-v.ensures)
+pub returns-in_err-v : goal.returns-in_err-v
+returns-in_err-v g c = rw c.from_residual-in_err-v.ensures (short_free c.in_ok-a.ensures.grows c.in_ok-x.ensures.grows c.in_err-v.ensures)
 
 pub returns : goal.returns
-returns g c = applied _ c.in-ok-a.a c.in-ok-x.x c.in-ok-v.v c.apply.result c.in-ok-a.ensures c.in-ok-x.ensures c.in-ok-v.ensures c.apply.ensures
+returns g c = applied _ c.in_ok-a.a c.in_ok-x.x c.in_ok-v.v c.apply.result c.in_ok-a.ensures c.in_ok-x.ensures c.in_ok-v.ensures c.apply.ensures

@@ -24,6 +24,6 @@ returns g c =
       stack = search rules;
       cases = λ f us d e.
           rw (← sifted-dedup f us, ← poured-sifted in_hyps f us [])
-          (lists_weaker _ _ _ c.gather-images.result (⊎_map (λ x. let k = nodes-reverse us in omega arith) (λ x. x))
-          (c.gather-images.ensures.cases f (reverse us) [] d (c.if-not-spread.ensures.cases us e) c.empty-empty.ensures.terms));
+          (lists_weaker _ _ _ c.gather_images.result (⊎_map (λ x. let k = nodes-reverse us in omega arith) (λ x. x))
+          (c.gather_images.ensures.cases f (reverse us) [] d (c.if-not-spread.ensures.cases us e) c.empty-empty.ensures.terms));
     }

@@ -9,8 +9,8 @@ contains-requires g c =
     let (f, d) = c.requires.map in
     let (u, e) = c.requires.term in
     let (vs, h) = c.requires.list in
-    let i = c.in-ok-image.ensures.cases f u d e in
-    record { term = (f u, i.stands); list = (vs, i.grows.keeps.terms c.args.so-far vs h) }
+    let i = c.in_ok-image.ensures.cases f u d e in
+    record { term = (f u, i.stands); list = (vs, i.grows.keeps.terms c.args.so_far vs h) }
 
 pub returns-then-contains : goal.returns-then-contains
 returns-then-contains g c =
@@ -19,8 +19,8 @@ returns-then-contains g c =
     record {
       stack = c.image.ensures.stack;
       cases = λ f u vs d e h.
-          let i = c.in-ok-image.ensures.cases f u d e in
-          let there = k.made (f u) vs i.stands (i.grows.keeps.terms c.args.so-far vs h) in
+          let i = c.in_ok-image.ensures.cases f u d e in
+          let there = k.made (f u) vs i.stands (i.grows.keeps.terms c.args.so_far vs h) in
           let_go in_hyps (f u) vs (sym there ∙ c.if-contains.true) m.count m.contents m.left
           (grows_on i.grows k.stays.grows) c.release.ensures h;
     }
@@ -32,8 +32,8 @@ returns-in-Some g c =
     record {
       stack = c.image.ensures.stack;
       cases = λ f u vs d e h.
-          let i = c.in-ok-image.ensures.cases f u d e in
-          let l = i.grows.keeps.terms c.args.so-far vs h in
+          let i = c.in_ok-image.ensures.cases f u d e in
+          let l = i.grows.keeps.terms c.args.so_far vs h in
           put_on in_hyps (f u) vs (sym (k.made (f u) vs i.stands l) ∙ c.if-contains.false) (omega arith)
           (grows_on i.grows k.stays.grows) (y.term _ (f u) i.stands) (y.terms _ vs l) c.in-Some.ensures;
     }

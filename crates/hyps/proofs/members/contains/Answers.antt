@@ -41,5 +41,5 @@ returns g c =
     let (us, q) = c.requires.list in
     record {
       stays = (at u us p q).stays;
-      made = λ u us p q. ended (at u us p q) (c.in-default.ensures (at u us p q).ahead (at u us p q).ahead_is);
+      made = λ u us p q. ended (at u us p q) (c.in_default.ensures (at u us p q).ahead (at u us p q).ahead_is);
     }

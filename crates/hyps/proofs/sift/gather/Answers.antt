@@ -4,8 +4,8 @@ use Rattle.hyps.proofs.Moving.{moves_on}
 use Rattle.hyps.proofs.Gathering.{taken, next, no_room, ended}
 use Rattle.hyps.proofs.sift.gather.Goals as goal
 
-pub put-before-requires : goal.put-before-requires
-put-before-requires g c =
+pub put_before-requires : goal.put_before-requires
+put_before-requires g c =
     let (p, h) = c.requires.test in
     let (us, st) = c.requires.stand in
     let (vs, e) = c.requires.list in
@@ -17,8 +17,8 @@ put-before-requires g c =
       list = (k.list, k.list_is);
     }
 
-pub returns-in-err-list : goal.returns-in-err-list
-returns-in-err-list g c =
+pub returns-in_err-list : goal.returns-in_err-list
+returns-in_err-list g c =
     let (m, at) = c.loop-t.invariant in
     let q = c.in-Some.ensures in
     let n = moves_on m q.within q.same q.top_name q.words_name in
@@ -30,9 +30,9 @@ returns-in-err-list g c =
       cases = λ p us vs h st e.
           let k = at p us vs h st e in
           let v = taken p (λ u. u) k q.cases in
-          let w = err_from_is_err_and c.from-residual.result c.from-residual.ensures.1 in
+          let w = err_from_is_err_and c.from_residual.result c.from_residual.ensures.1 in
           rw w.1 (no_room p (λ u. u) k q.cases
-          (c.in-err-list.ensures p v.first k.list (leaves_kept k.grows.keeps h) v.first_is k.list_is));
+          (c.in_err-list.ensures p v.first k.list (leaves_kept k.grows.keeps h) v.first_is k.list_is));
     }
 
 pub loop-t-preserved : goal.loop-t-preserved
@@ -44,13 +44,13 @@ loop-t-preserved g c =
           let k = at p us vs h st e in
           let v = taken p (λ u. u) k q.cases in
           next p (λ u. u) k q.cases
-          (c.in-ok-list.ensures p v.first k.list (leaves_kept k.grows.keeps h) v.first_is k.list_is),
+          (c.in_ok-list.ensures p v.first k.list (leaves_kept k.grows.keeps h) v.first_is k.list_is),
     )
 
 pub returns : goal.returns
 returns g c =
     let (m, at) = c.loop-t.invariant in
-    let q = c.in-default.ensures in
+    let q = c.in_default.ensures in
     let n = moves_on m q.within q.same q.top_name q.words_name in
     record {
       within = n.within;

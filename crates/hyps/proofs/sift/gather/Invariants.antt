@@ -12,7 +12,7 @@ use Rattle.hyps.proofs.sift.gather.Given as goal
 abbrev pub invariant-loop-t : goal.invariant-loop-t
 invariant-loop-t g l =
     let s = g.S.Store.state l.initial.store in
-    Moves l.initial.f l.f × ((p : Tm → List Tm → Bool) (us vs : List Tm) → Leaves s.contents l.left-out p
+    Moves l.initial.f l.f × ((p : Tm → List Tm → Bool) (us vs : List Tm) → Leaves s.contents l.left_out p
     → Stand s.contents (held l.initial.f) us → s.contents.terms l.start ≡ some vs
     → Gathering p (λ u. u) s (g.S.Store.state l.store) us (held l.f) l.list (poured p (λ u. u) us vs))
 

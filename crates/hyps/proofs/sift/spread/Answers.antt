@@ -48,5 +48,5 @@ returns g c =
       same = m.same;
       top_name = m.top_name;
       words_name = m.words_name;
-      cases = λ us e. let k = at us e in ended k (c.in-default.ensures k.ahead k.ahead_is);
+      cases = λ us e. let k = at us e in ended k (c.in_default.ensures k.ahead k.ahead_is);
     }

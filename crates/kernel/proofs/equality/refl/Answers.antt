@@ -10,29 +10,29 @@ use Rattle.typing.specs.Built.{types_built}
 use Rattle.kernel.proofs.Fits.{refl_fits}
 use Rattle.kernel.proofs.equality.refl.Goals as goal
 
-pub returns-in-err-a : goal.returns-in-err-a
-returns-in-err-a g c =
+pub returns-in_err-a : goal.returns-in_err-a
+returns-in_err-a g c =
     record {
       space = search rules;
-      cases = λ th u hk ht. rw c.from-residual.ensures (elim (c.in-err-a.ensures.cases th u hk ht) [
+      cases = λ th u hk ht. rw c.from_residual.ensures (elim (c.in_err-a.ensures.cases th u hk ht) [
         | nothing e f ↦ nothing (rw e refl) f
         | unserved l f ↦ unserved (lacks_more (omega arith) (omega arith) l) f
       ]);
     }
 
 pub equal-requires : goal.equal-requires
-equal-requires g c = record { clear = elim (c.in-ok-a.ensures.cases _ _ c.requires.theory.1 c.requires.term.1) [ served a e m f ↦ f ] }
+equal-requires g c = record { clear = elim (c.in_ok-a.ensures.cases _ _ c.requires.theory.1 c.requires.term.1) [ served a e m f ↦ f ] }
 
-pub returns-in-err-concl : goal.returns-in-err-concl
-returns-in-err-concl g c =
+pub returns-in_err-concl : goal.returns-in_err-concl
+returns-in_err-concl g c =
     record {
       space = search rules;
-      cases = λ th u hk ht. elim (c.in-ok-a.ensures.cases th u hk ht) [
+      cases = λ th u hk ht. elim (c.in_ok-a.ensures.cases th u hk ht) [
         | served a e m f ↦
             let k = m.grows.keeps in
             let o = refl_fits th u e in
-            let d = undone_of (c.in-err-concl.ensures.cases _ _ _ (grounded_kept k c.requires.ground) m.stands (k.term _ _ ht) (k.term _ _ ht)) in
-            rw c.from-residual-in-err-concl.ensures (unserved (lacks_after _ _ 0 _ _ _ _ _ c.in-ok-a.ensures.space (omega arith) (omega (arith, m.grows.cost, priced (types_built th [] u) _ o (le_refl _))) d.0) d.1)
+            let d = undone_of (c.in_err-concl.ensures.cases _ _ _ (grounded_kept k c.requires.ground) m.stands (k.term _ _ ht) (k.term _ _ ht)) in
+            rw c.from_residual-in_err-concl.ensures (unserved (lacks_after _ _ 0 _ _ _ _ _ c.in_ok-a.ensures.space (omega arith) (omega (arith, m.grows.cost, priced (types_built th [] u) _ o (le_refl _))) d.0) d.1)
       ];
     }
 
@@ -40,11 +40,11 @@ pub returns : goal.returns
 returns g c =
     record {
       space = search rules;
-      cases = λ th u hk ht. elim (c.in-ok-a.ensures.cases th u hk ht) [
+      cases = λ th u hk ht. elim (c.in_ok-a.ensures.cases th u hk ht) [
         | served a e m f ↦
             let k = m.grows.keeps in
             let o = refl_fits th u e in
-            let d = done_of (c.in-ok-concl.ensures.cases _ _ _ (grounded_kept k c.requires.ground) m.stands (k.term _ _ ht) (k.term _ _ ht)) in
+            let d = done_of (c.in_ok-concl.ensures.cases _ _ _ (grounded_kept k c.requires.ground) m.stands (k.term _ _ ht) (k.term _ _ ht)) in
             let gr = grows_on m.grows d.0.grows in
             served _ o (record { stands = record { hyps = gr.keeps.terms _ _ c.empty-hyps.ensures.terms; concl = d.0.stands }; grows = grows-more (omega arith) gr; derived = λ wf all. steps_sound th [] (s_refl u) _ wf all o }) d.1
       ];

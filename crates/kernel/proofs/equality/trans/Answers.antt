@@ -10,23 +10,23 @@ use Rattle.kernel.proofs.Fits.{trans_fits}
 use Rattle.kernel.proofs.Giving.{priced}
 use Rattle.kernel.proofs.equality.trans.Goals as goal
 
-pub returns-in-err-left : goal.returns-in-err-left
-returns-in-err-left g c =
+pub returns-in_err-left : goal.returns-in_err-left
+returns-in_err-left g c =
     record {
       space = search rules;
       cases = λ th p q hp hq.
-          let e = absent _ (sides p.concl) (c.in-err-left.ensures p.concl hp.concl) in
-          rw c.from-residual.ensures (nothing (rw e refl) c.requires.clear);
+          let e = absent _ (sides p.concl) (c.in_err-left.ensures p.concl hp.concl) in
+          rw c.from_residual.ensures (nothing (rw e refl) c.requires.clear);
     }
 
-pub returns-in-err-right : goal.returns-in-err-right
-returns-in-err-right g c =
+pub returns-in_err-right : goal.returns-in_err-right
+returns-in_err-right g c =
     record {
       space = search rules;
       cases = λ th p q hp hq.
-          let l = there _ (sides p.concl) (c.in-ok-left.ensures p.concl hp.concl) in
-          let e = absent _ (sides q.concl) (c.in-err-right.ensures q.concl hq.concl) in
-          rw c.from-residual-in-err-right.ensures (nothing (rw l.is (rw e refl)) c.requires.clear);
+          let l = there _ (sides p.concl) (c.in_ok-left.ensures p.concl hp.concl) in
+          let e = absent _ (sides q.concl) (c.in_err-right.ensures q.concl hq.concl) in
+          rw c.from_residual-in_err-right.ensures (nothing (rw l.is (rw e refl)) c.requires.clear);
     }
 
 pub returns-then-not-meets : goal.returns-then-not-meets
@@ -34,8 +34,8 @@ returns-then-not-meets g c =
     record {
       space = search rules;
       cases = λ th p q hp hq.
-          let l = there _ (sides p.concl) (c.in-ok-left.ensures p.concl hp.concl) in
-          let r = there _ (sides q.concl) (c.in-ok-right.ensures q.concl hq.concl) in
+          let l = there _ (sides p.concl) (c.in_ok-left.ensures p.concl hp.concl) in
+          let r = there _ (sides q.concl) (c.in_ok-right.ensures q.concl hq.concl) in
           let e = sym (c.meets.ensures.same l.what r.what l.stands r.stands) ∙ c.if-not-meets.true in
           nothing (rw l.is (rw r.is (rw e refl))) c.requires.clear;
     }
@@ -49,41 +49,41 @@ join-requires g c =
       second = (_, k.terms _ _ c.requires.second.1.hyps);
     }
 
-pub returns-in-err-hyps : goal.returns-in-err-hyps
-returns-in-err-hyps g c =
+pub returns-in_err-hyps : goal.returns-in_err-hyps
+returns-in_err-hyps g c =
     record {
       space = search rules;
       cases = λ th p q hp hq.
-          let l = there _ (sides p.concl) (c.in-ok-left.ensures p.concl hp.concl) in
-          let r = there _ (sides q.concl) (c.in-ok-right.ensures q.concl hq.concl) in
+          let l = there _ (sides p.concl) (c.in_ok-left.ensures p.concl hp.concl) in
+          let r = there _ (sides q.concl) (c.in_ok-right.ensures q.concl hq.concl) in
           let t = sym (c.meets.ensures.same l.what r.what l.stands r.stands) ∙ c.if-not-meets.false in
           let k = c.meets.ensures.stays in
           let e = trans_fits p q l.what r.what l.is r.is t in
-          let u = undone_of (c.in-err-hyps.ensures.cases p.hyps q.hyps (k.grows.keeps.terms _ _ hp.hyps) (k.grows.keeps.terms _ _ hq.hyps)) in
-          rw c.from-residual-in-err-hyps.ensures (unserved (lacks_after _ _ _ _ _ _ _ _ refl (omega arith) (omega (arith, k.left, priced 0 _ e (le_refl _))) u.0) u.1);
+          let u = undone_of (c.in_err-hyps.ensures.cases p.hyps q.hyps (k.grows.keeps.terms _ _ hp.hyps) (k.grows.keeps.terms _ _ hq.hyps)) in
+          rw c.from_residual-in_err-hyps.ensures (unserved (lacks_after _ _ _ _ _ _ _ _ refl (omega arith) (omega (arith, k.left, priced 0 _ e (le_refl _))) u.0) u.1);
     }
 
 pub equal-requires : goal.equal-requires
 equal-requires g c =
     let k = c.meets.ensures.stays.grows.keeps in
     record {
-      clear = (done_of (c.in-ok-hyps.ensures.cases _ _ (k.terms _ _ c.requires.first.1.hyps) (k.terms _ _ c.requires.second.1.hyps))).1;
+      clear = (done_of (c.in_ok-hyps.ensures.cases _ _ (k.terms _ _ c.requires.first.1.hyps) (k.terms _ _ c.requires.second.1.hyps))).1;
     }
 
-pub returns-in-err-concl : goal.returns-in-err-concl
-returns-in-err-concl g c =
+pub returns-in_err-concl : goal.returns-in_err-concl
+returns-in_err-concl g c =
     record {
       space = search rules;
       cases = λ th p q hp hq.
-          let l = there _ (sides p.concl) (c.in-ok-left.ensures p.concl hp.concl) in
-          let r = there _ (sides q.concl) (c.in-ok-right.ensures q.concl hq.concl) in
+          let l = there _ (sides p.concl) (c.in_ok-left.ensures p.concl hp.concl) in
+          let r = there _ (sides q.concl) (c.in_ok-right.ensures q.concl hq.concl) in
           let t = sym (c.meets.ensures.same l.what r.what l.stands r.stands) ∙ c.if-not-meets.false in
           let k = c.meets.ensures.stays in
           let e = trans_fits p q l.what r.what l.is r.is t in
-          let m = (done_of (c.in-ok-hyps.ensures.cases p.hyps q.hyps (k.grows.keeps.terms _ _ hp.hyps) (k.grows.keeps.terms _ _ hq.hyps))).0 in
+          let m = (done_of (c.in_ok-hyps.ensures.cases p.hyps q.hyps (k.grows.keeps.terms _ _ hp.hyps) (k.grows.keeps.terms _ _ hq.hyps))).0 in
           let gr = grows_on k.grows m.grows in
-          let u = undone_of (c.in-err-concl.ensures.cases _ _ _ (grounded_kept gr.keeps c.requires.ground) (gr.keeps.typ _ _ l.stands.ty) (gr.keeps.term _ _ l.stands.left) (gr.keeps.term _ _ r.stands.right)) in
-          rw c.from-residual-in-err-concl.ensures (unserved (lacks_after _ _ 0 _ _ _ _ _ c.in-ok-hyps.ensures.space (omega arith) (omega (arith, gr.cost, priced 0 _ e (le_refl _))) u.0) u.1);
+          let u = undone_of (c.in_err-concl.ensures.cases _ _ _ (grounded_kept gr.keeps c.requires.ground) (gr.keeps.typ _ _ l.stands.ty) (gr.keeps.term _ _ l.stands.left) (gr.keeps.term _ _ r.stands.right)) in
+          rw c.from_residual-in_err-concl.ensures (unserved (lacks_after _ _ 0 _ _ _ _ _ c.in_ok-hyps.ensures.space (omega arith) (omega (arith, gr.cost, priced 0 _ e (le_refl _))) u.0) u.1);
     }
 
 pub returns : goal.returns
@@ -91,13 +91,13 @@ returns g c =
     record {
       space = search rules;
       cases = λ th p q hp hq.
-          let l = there _ (sides p.concl) (c.in-ok-left.ensures p.concl hp.concl) in
-          let r = there _ (sides q.concl) (c.in-ok-right.ensures q.concl hq.concl) in
+          let l = there _ (sides p.concl) (c.in_ok-left.ensures p.concl hp.concl) in
+          let r = there _ (sides q.concl) (c.in_ok-right.ensures q.concl hq.concl) in
           let t = sym (c.meets.ensures.same l.what r.what l.stands r.stands) ∙ c.if-not-meets.false in
           let k = c.meets.ensures.stays in
           let e = trans_fits p q l.what r.what l.is r.is t in
-          let m = (done_of (c.in-ok-hyps.ensures.cases p.hyps q.hyps (k.grows.keeps.terms _ _ hp.hyps) (k.grows.keeps.terms _ _ hq.hyps))).0 in
+          let m = (done_of (c.in_ok-hyps.ensures.cases p.hyps q.hyps (k.grows.keeps.terms _ _ hp.hyps) (k.grows.keeps.terms _ _ hq.hyps))).0 in
           let gr = grows_on k.grows m.grows in
-          let d = done_of (c.in-ok-concl.ensures.cases _ _ _ (grounded_kept gr.keeps c.requires.ground) (gr.keeps.typ _ _ l.stands.ty) (gr.keeps.term _ _ l.stands.left) (gr.keeps.term _ _ r.stands.right)) in
+          let d = done_of (c.in_ok-concl.ensures.cases _ _ _ (grounded_kept gr.keeps c.requires.ground) (gr.keeps.typ _ _ l.stands.ty) (gr.keeps.term _ _ l.stands.left) (gr.keeps.term _ _ r.stands.right)) in
           served _ e (record { stands = record { hyps = d.0.grows.keeps.terms _ _ m.stands; concl = d.0.stands }; grows = grows-more (omega arith) (grows_on gr d.0.grows); derived = λ wf all. steps_sound th (p ∷ q ∷ []) (s_trans 0 1) _ wf all e }) d.1;
     }

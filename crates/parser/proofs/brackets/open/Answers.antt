@@ -5,48 +5,48 @@ use Rattle.parser_types.proofs.Refused.{refused}
 use Rattle.parser.proofs.Opens.{formless, behind_form, form_short, form_read, form_unread, application_next, lambda_next, lambda_none}
 use Rattle.parser.proofs.brackets.open.Goals as goal
 
-pub returns-in-default : goal.returns-in-default
-returns-in-default g c = record { stack = search rules; cases = λ ts qs e. formless ts qs e c.in-default.ensures }
+pub returns-in_default : goal.returns-in_default
+returns-in_default g c = record { stack = search rules; cases = λ ts qs e. formless ts qs e c.in_default.ensures }
 
-pub returns-in-err-read : goal.returns-in-err-read
-returns-in-err-read g c =
+pub returns-in_err-read : goal.returns-in_err-read
+returns-in_err-read g c =
     let f = rw c.in-Free.is at c.in-Some.ensures in
-    let r = c.in-err-read.ensures in
+    let r = c.in_err-read.ensures in
     record {
       stack = r.stack;
       cases = λ ts qs e.
           let (us, i, j) = behind_form ts qs e Free f in
-          refused _ c.from-residual.result c.from-residual.ensures.0 (form_short ts qs e Free f (r.cases us qs j));
+          refused _ c.from_residual.result c.from_residual.ensures.0 (form_short ts qs e Free f (r.cases us qs j));
     }
 
-pub returns-in-err-read-2 : goal.returns-in-err-read-2
-returns-in-err-read-2 g c =
+pub returns-in_err-read-2 : goal.returns-in_err-read-2
+returns-in_err-read-2 g c =
     let f = rw c.in-Constant.is at c.in-Some.ensures in
-    let r = c.in-err-read-2.ensures in
+    let r = c.in_err-read-2.ensures in
     record {
       stack = r.stack;
       cases = λ ts qs e.
           let (us, i, j) = behind_form ts qs e Constant f in
-          refused _ c.from-residual-in-err-read-2.result c.from-residual-in-err-read-2.ensures.0
+          refused _ c.from_residual-in_err-read-2.result c.from_residual-in_err-read-2.ensures.0
           (form_short ts qs e Constant f (r.cases us qs j));
     }
 
-pub returns-in-err-bound : goal.returns-in-err-bound
-returns-in-err-bound g c =
+pub returns-in_err-bound : goal.returns-in_err-bound
+returns-in_err-bound g c =
     let f = rw c.in-Lambda.is at c.in-Some.ensures in
-    let r = c.in-err-bound.ensures in
+    let r = c.in_err-bound.ensures in
     record {
       stack = r.stack;
       cases = λ ts qs e.
           let (us, i, j) = behind_form ts qs e Lambda f in
-          refused _ c.from-residual-in-err-bound.result c.from-residual-in-err-bound.ensures.0
+          refused _ c.from_residual-in_err-bound.result c.from_residual-in_err-bound.ensures.0
           (form_short ts qs e Lambda f (r.cases us qs j));
     }
 
 pub returns-in-Some-read : goal.returns-in-Some-read
 returns-in-Some-read g c =
     let f = rw c.in-Free.is at c.in-Some.ensures in
-    let r = rw c.in-Some-read.is at c.in-ok-read.ensures in
+    let r = rw c.in-Some-read.is at c.in_ok-read.ensures in
     record {
       stack = r.stack;
       cases = λ ts qs e.
@@ -57,7 +57,7 @@ returns-in-Some-read g c =
 pub returns-in-None : goal.returns-in-None
 returns-in-None g c =
     let f = rw c.in-Free.is at c.in-Some.ensures in
-    let r = rw c.in-None.is at c.in-ok-read.ensures in
+    let r = rw c.in-None.is at c.in_ok-read.ensures in
     record {
       stack = r.stack;
       cases = λ ts qs e.
@@ -68,7 +68,7 @@ returns-in-None g c =
 pub returns-in-Some-read-2 : goal.returns-in-Some-read-2
 returns-in-Some-read-2 g c =
     let f = rw c.in-Constant.is at c.in-Some.ensures in
-    let r = rw c.in-Some-read-2.is at c.in-ok-read-2.ensures in
+    let r = rw c.in-Some-read-2.is at c.in_ok-read-2.ensures in
     record {
       stack = r.stack;
       cases = λ ts qs e.
@@ -79,7 +79,7 @@ returns-in-Some-read-2 g c =
 pub returns-in-None-read : goal.returns-in-None-read
 returns-in-None-read g c =
     let f = rw c.in-Constant.is at c.in-Some.ensures in
-    let r = rw c.in-None-read.is at c.in-ok-read-2.ensures in
+    let r = rw c.in-None-read.is at c.in_ok-read-2.ensures in
     record {
       stack = r.stack;
       cases = λ ts qs e.
@@ -95,7 +95,7 @@ returns-in-Application g c =
 pub returns-in-Some-bound : goal.returns-in-Some-bound
 returns-in-Some-bound g c =
     let f = rw c.in-Lambda.is at c.in-Some.ensures in
-    let r = rw c.in-Some-bound.is at c.in-ok-bound.ensures in
+    let r = rw c.in-Some-bound.is at c.in_ok-bound.ensures in
     record {
       stack = r.stack;
       cases = λ ts qs e.
@@ -106,7 +106,7 @@ returns-in-Some-bound g c =
 pub returns-in-None-bound : goal.returns-in-None-bound
 returns-in-None-bound g c =
     let f = rw c.in-Lambda.is at c.in-Some.ensures in
-    let r = rw c.in-None-bound.is at c.in-ok-bound.ensures in
+    let r = rw c.in-None-bound.is at c.in_ok-bound.ensures in
     record {
       stack = r.stack;
       cases = λ ts qs e.

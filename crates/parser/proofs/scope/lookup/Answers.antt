@@ -11,13 +11,13 @@ pub loop-at-preserved : goal.loop-at-preserved
 loop-at-preserved g c =
     let f = c.args.names.now in
     let e = popped f.words.now f.base c.loop-at.at (omega arith) (omega arith) in
-    (omega arith, omega arith, λ xs h. passed (rw e at (c.loop-at.invariant.2 xs h)) c.if-is-named.ensures)
+    (omega arith, omega arith, λ xs h. passed (rw e at (c.loop-at.invariant.2 xs h)) c.if-is_named.ensures)
 
-pub returns-then-is-named : goal.returns-then-is-named
-returns-then-is-named g c = λ xs h.
+pub returns-then-is_named : goal.returns-then-is_named
+returns-then-is_named g c = λ xs h.
     let f = c.args.names.now in
     let e = popped f.words.now f.base c.loop-at.at (omega arith) (omega arith) in
-    found (rw e at (c.loop-at.invariant.2 xs h)) c.if-is-named.ensures
+    found (rw e at (c.loop-at.invariant.2 xs h)) c.if-is_named.ensures
 
 pub returns : goal.returns
 returns g c = λ xs h.

@@ -9,18 +9,18 @@ use Rattle.parser_types.proofs.Single.{given_token}
 use Rattle.parser.proofs.Downs.{no_token, nothing_there, variable_missing, variable_found, variable_short, into, whole_read, no_term, function_next, body_next, open_short, function_full, body_full, names_full}
 use Rattle.parser.proofs.term.down.Goals as goal
 
-pub returns-in-default : goal.returns-in-default
-returns-in-default g c =
+pub returns-in_default : goal.returns-in_default
+returns-in_default g c =
     record {
       within = c.requires.words;
       same = unmoved c.args.f.now;
       top_name = refl;
       words_name = refl;
-      within-names = c.requires.names;
+      within_names = c.requires.names;
       same_names = unmoved c.args.names.now;
-      top-name-names = refl;
-      words-name-names = refl;
-      moves = λ qs x at. absurd (no_token at c.in-default.ensures.0);
+      top_name_names = refl;
+      words_name_names = refl;
+      moves = λ qs x at. absurd (no_token at c.in_default.ensures.0);
     }
 
 pub returns-in-Close : goal.returns-in-Close
@@ -30,26 +30,26 @@ returns-in-Close g c =
       same = unmoved c.args.f.now;
       top_name = refl;
       words_name = refl;
-      within-names = c.requires.names;
+      within_names = c.requires.names;
       same_names = unmoved c.args.names.now;
-      top-name-names = refl;
-      words-name-names = refl;
+      top_name_names = refl;
+      words_name_names = refl;
       moves = λ qs x at. nothing_there at (given_token c.in-Some.ensures c.in-Close.is);
     }
 
-pub returns-in-default-lookup : goal.returns-in-default-lookup
-returns-in-default-lookup g c =
+pub returns-in_default-lookup : goal.returns-in_default-lookup
+returns-in_default-lookup g c =
     let w = given_token c.in-Some.ensures c.in-Word.is in
     record {
       within = c.requires.words;
       same = unmoved c.args.f.now;
       top_name = refl;
       words_name = refl;
-      within-names = c.requires.names;
+      within_names = c.requires.names;
       same_names = unmoved c.args.names.now;
-      top-name-names = refl;
-      words-name-names = refl;
-      moves = λ qs x at. variable_missing w at c.in-default-lookup.ensures;
+      top_name_names = refl;
+      words_name_names = refl;
+      moves = λ qs x at. variable_missing w at c.in_default-lookup.ensures;
     }
 
 pub returns-in-Some-bound : goal.returns-in-Some-bound
@@ -60,10 +60,10 @@ returns-in-Some-bound g c =
       same = unmoved c.args.f.now;
       top_name = refl;
       words_name = refl;
-      within-names = c.requires.names;
+      within_names = c.requires.names;
       same_names = unmoved c.args.names.now;
-      top-name-names = refl;
-      words-name-names = refl;
+      top_name_names = refl;
+      words_name_names = refl;
       moves = λ qs x at. variable_found w at c.in-Some-lookup.ensures c.in-Some-bound.ensures;
     }
 
@@ -75,147 +75,147 @@ returns-in-None g c =
       same = unmoved c.args.f.now;
       top_name = refl;
       words_name = refl;
-      within-names = c.requires.names;
+      within_names = c.requires.names;
       same_names = unmoved c.args.names.now;
-      top-name-names = refl;
-      words-name-names = refl;
+      top_name_names = refl;
+      words_name_names = refl;
       moves = λ qs x at. variable_short w at c.in-None.ensures;
     }
 
-pub returns-in-err-opened : goal.returns-in-err-opened
-returns-in-err-opened g c =
+pub returns-in_err-opened : goal.returns-in_err-opened
+returns-in_err-opened g c =
     let i = given_token c.in-Some.ensures c.in-Open.is in
-    let r = c.in-err-opened.ensures in
+    let r = c.in_err-opened.ensures in
     record {
       within = r.within;
       same = r.same;
       top_name = r.top_name;
       words_name = r.words_name;
-      within-names = c.requires.names;
+      within_names = c.requires.names;
       same_names = unmoved c.args.names.now;
-      top-name-names = refl;
-      words-name-names = refl;
+      top_name_names = refl;
+      words_name_names = refl;
       moves = λ qs x at.
-          refused _ c.from-residual.result c.from-residual.ensures.0
+          refused _ c.from_residual.result c.from_residual.ensures.0
           (open_short i (g.S.Store.state c.args.store.now) (into at i) r.cases);
     }
 
 pub returns-in-Whole : goal.returns-in-Whole
 returns-in-Whole g c =
     let i = given_token c.in-Some.ensures c.in-Open.is in
-    let r = rw c.in-Whole.is at c.in-ok-opened.ensures in
+    let r = rw c.in-Whole.is at c.in_ok-opened.ensures in
     record {
       within = r.within;
       same = r.same;
       top_name = r.top_name;
       words_name = r.words_name;
-      within-names = c.requires.names;
+      within_names = c.requires.names;
       same_names = unmoved c.args.names.now;
-      top-name-names = refl;
-      words-name-names = refl;
+      top_name_names = refl;
+      words_name_names = refl;
       moves = λ qs x at. rw r.held (whole_read i (into at i) r.cases);
     }
 
 pub returns-in-Nothing : goal.returns-in-Nothing
 returns-in-Nothing g c =
     let i = given_token c.in-Some.ensures c.in-Open.is in
-    let r = rw c.in-Nothing.is at c.in-ok-opened.ensures in
+    let r = rw c.in-Nothing.is at c.in_ok-opened.ensures in
     record {
       within = r.within;
       same = r.same;
       top_name = r.top_name;
       words_name = r.words_name;
-      within-names = c.requires.names;
+      within_names = c.requires.names;
       same_names = unmoved c.args.names.now;
-      top-name-names = refl;
-      words-name-names = refl;
+      top_name_names = refl;
+      words_name_names = refl;
       moves = λ qs x at. no_term i (into at i) r.cases;
     }
 
-pub returns-then-push-all : goal.returns-then-push-all
-returns-then-push-all g c =
+pub returns-then-push_all : goal.returns-then-push_all
+returns-then-push_all g c =
     let i = given_token c.in-Some.ensures c.in-Open.is in
-    let r = rw c.in-Function.is at c.in-ok-opened.ensures in
-    let p = c.if-push-all.ensures in
+    let r = rw c.in-Function.is at c.in_ok-opened.ensures in
+    let p = c.if-push_all.ensures in
     record {
       within = p.within;
       same = same_trans r.same p.same;
       top_name = p.top_name ∙ r.top_name;
       words_name = p.words_name ∙ r.words_name;
-      within-names = c.requires.names;
+      within_names = c.requires.names;
       same_names = unmoved c.args.names.now;
-      top-name-names = refl;
-      words-name-names = refl;
+      top_name_names = refl;
+      words_name_names = refl;
       moves = λ qs x at. function_next i (into at i) r.cases (p.cases ∙ ap (λ ws. code Function ∷ 0 ∷ ws) r.held);
     }
 
-pub returns-else-push-all : goal.returns-else-push-all
-returns-else-push-all g c =
+pub returns-else-push_all : goal.returns-else-push_all
+returns-else-push_all g c =
     let i = given_token c.in-Some.ensures c.in-Open.is in
-    let r = rw c.in-Function.is at c.in-ok-opened.ensures in
-    let p = c.if-push-all.ensures in
+    let r = rw c.in-Function.is at c.in_ok-opened.ensures in
+    let p = c.if-push_all.ensures in
     record {
       within = p.within;
       same = same_trans r.same p.same;
       top_name = p.top_name ∙ r.top_name;
       words_name = p.words_name ∙ r.words_name;
-      within-names = c.requires.names;
+      within_names = c.requires.names;
       same_names = unmoved c.args.names.now;
-      top-name-names = refl;
-      words-name-names = refl;
+      top_name_names = refl;
+      words_name_names = refl;
       moves = λ qs x at. function_full i (into at i) r.cases (rw (same-capacity r.same, r.held) at p.cases.1);
     }
 
 pub returns-then-not-push : goal.returns-then-not-push
 returns-then-not-push g c =
     let i = given_token c.in-Some.ensures c.in-Open.is in
-    let r = rw c.in-Under.is at c.in-ok-opened.ensures in
+    let r = rw c.in-Under.is at c.in_ok-opened.ensures in
     let n = c.if-not-push.ensures in
     record {
       within = r.within;
       same = r.same;
       top_name = r.top_name;
       words_name = r.words_name;
-      within-names = n.within;
+      within_names = n.within;
       same_names = n.same;
-      top-name-names = n.top_name;
-      words-name-names = n.words_name;
+      top_name_names = n.top_name;
+      words_name_names = n.words_name;
       moves = λ qs x at. names_full i (into at i) r.cases n.cases.1;
     }
 
-pub returns-then-push-all-2 : goal.returns-then-push-all-2
-returns-then-push-all-2 g c =
+pub returns-then-push_all-2 : goal.returns-then-push_all-2
+returns-then-push_all-2 g c =
     let i = given_token c.in-Some.ensures c.in-Open.is in
-    let r = rw c.in-Under.is at c.in-ok-opened.ensures in
+    let r = rw c.in-Under.is at c.in_ok-opened.ensures in
     let n = c.if-not-push.ensures in
-    let p = c.if-push-all-2.ensures in
+    let p = c.if-push_all-2.ensures in
     record {
       within = p.within;
       same = same_trans r.same p.same;
       top_name = p.top_name ∙ r.top_name;
       words_name = p.words_name ∙ r.words_name;
-      within-names = n.within;
+      within_names = n.within;
       same_names = n.same;
-      top-name-names = n.top_name;
-      words-name-names = n.words_name;
+      top_name_names = n.top_name;
+      words_name_names = n.words_name;
       moves = λ qs x at.
           body_next i (into at i) r.cases (p.cases ∙ ap (λ ws. code Body ∷ c.in-Under.variable.ty ∷ ws) r.held) n.cases;
     }
 
-pub returns-else-push-all-2 : goal.returns-else-push-all-2
-returns-else-push-all-2 g c =
+pub returns-else-push_all-2 : goal.returns-else-push_all-2
+returns-else-push_all-2 g c =
     let i = given_token c.in-Some.ensures c.in-Open.is in
-    let r = rw c.in-Under.is at c.in-ok-opened.ensures in
+    let r = rw c.in-Under.is at c.in_ok-opened.ensures in
     let n = c.if-not-push.ensures in
-    let p = c.if-push-all-2.ensures in
+    let p = c.if-push_all-2.ensures in
     record {
       within = p.within;
       same = same_trans r.same p.same;
       top_name = p.top_name ∙ r.top_name;
       words_name = p.words_name ∙ r.words_name;
-      within-names = n.within;
+      within_names = n.within;
       same_names = n.same;
-      top-name-names = n.top_name;
-      words-name-names = n.words_name;
+      top_name_names = n.top_name;
+      words_name_names = n.words_name;
       moves = λ qs x at. body_full i (into at i) r.cases (rw (same-capacity r.same, r.held) at p.cases.1);
     }

@@ -7,20 +7,20 @@ use Rattle.reader.proofs.line.line_of.Goals.{then-byte-eq-LINE_FEED, else-byte-e
 pub loop-byte-init : goal.loop-byte-init
 loop-byte-init c = record { rest = omega arith; few = omega arith }
 
-pub overflow-add-line : goal.overflow-add-line
-overflow-add-line c = omega (arith, length-take c.start-of.result c.args.text.now)
+pub overflow_add-line : goal.overflow_add-line
+overflow_add-line c = omega (arith, length-take c.start_of.result c.args.text.now)
 
 pub loop-byte-preserved : goal.loop-byte-preserved
 loop-byte-preserved c =
     let passed = take c.start_of.result c.args.text.now in
     let l = c.loop-byte in
-    elim c.if-byte-eq-LINE-FEED.branch [
+    elim c.if-byte-eq-LINE_FEED.branch [
       | then-byte-eq-LINE_FEED w ↦
           simp w.line-is
-          (lined_feed passed l.byte-index l.line l.invariant c.loop-byte-test.true w.if-byte-eq-LINE-FEED.true)
+          (lined_feed passed l.byte-index l.line l.invariant c.loop-byte-test.true w.if-byte-eq-LINE_FEED.true)
       | else-byte-eq-LINE_FEED w ↦
           simp w.line-is
-          (lined_other passed l.byte-index l.line l.invariant c.loop-byte-test.true w.if-byte-eq-LINE-FEED.false)
+          (lined_other passed l.byte-index l.line l.invariant c.loop-byte-test.true w.if-byte-eq-LINE_FEED.false)
     ]
 
 pub returns : goal.returns

@@ -11,10 +11,10 @@ loop-end-preserved c =
     comment_on c.args.text.now c.args.at c.loop-end.end c.loop-end.invariant c.loop-end-test.true
     c.if-text-end-eq-LINE_FEED.false
 
-pub returns-then-text-end-eq-LINE-FEED : goal.returns-then-text-end-eq-LINE-FEED
-returns-then-text-end-eq-LINE-FEED c =
+pub returns-then-text-end-eq-LINE_FEED : goal.returns-then-text-end-eq-LINE_FEED
+returns-then-text-end-eq-LINE_FEED c =
     comment_ends c.args.text.now c.args.at c.loop-end.end c.loop-end.invariant c.loop-end-test.true
-    c.if-text-end-eq-LINE-FEED.true
+    c.if-text-end-eq-LINE_FEED.true
 
 pub returns : goal.returns
 returns c = comment-last c.args.text.now c.args.at c.loop-end.end c.loop-end.invariant c.loop-end-test.false

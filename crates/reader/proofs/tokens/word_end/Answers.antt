@@ -11,10 +11,10 @@ loop-end-preserved c =
     spelt_on c.args.text.now c.args.start c.loop-end.end c.loop-end.invariant c.loop-end-test.true
     (sym c.in-Letter.ensures)
 
-pub returns-in-default : goal.returns-in-default
-returns-in-default c =
+pub returns-in_default : goal.returns-in_default
+returns-in_default c =
     spelt_ends c.args.text.now c.args.start c.loop-end.end c.loop-end.invariant c.loop-end-test.true
-    (λ e. c.in-default.not-Letter (c.kind_of.ensures ∙ e))
+    (λ e. c.in_default.not-Letter (c.kind_of.ensures ∙ e))
 
 pub returns : goal.returns
 returns c = spelt_last c.args.text.now c.args.start c.loop-end.end c.loop-end.invariant c.loop-end-test.false

@@ -4,26 +4,26 @@ use Rattle.walk.proofs.Compared.{types_compared}
 use Rattle.typing.proofs.Forms.{no_arrow, an_arrow, applied, not_applied}
 use Rattle.typing.proofs.form.apply_type.Goals as goal
 
-pub returns-then-same-type : goal.returns-then-same-type
-returns-then-same-type g c =
-    let s = c.same-type.ensures in
+pub returns-then-same_type : goal.returns-then-same_type
+returns-then-same_type g c =
+    let s = c.same_type.ensures in
     record {
       stays = s.stays;
       cases = λ a b ha hb.
           let f = an_arrow (g.S.Store.state c.args.store.now).contents a c.in-Some.parts (c.in-Some.ensures a ha) in
           let q = types_compared f.stand.dom hb s.sound s.complete in
-          record { what = f.parts.cod; is = applied a b f.is (sym c.if-same-type.true ∙ q); stands = s.stays.grows.keeps.typ _ f.parts.cod f.stand.cod };
+          record { what = f.parts.cod; is = applied a b f.is (sym c.if-same_type.true ∙ q); stands = s.stays.grows.keeps.typ _ f.parts.cod f.stand.cod };
     }
 
-pub returns-else-same-type : goal.returns-else-same-type
-returns-else-same-type g c =
-    let s = c.same-type.ensures in
+pub returns-else-same_type : goal.returns-else-same_type
+returns-else-same_type g c =
+    let s = c.same_type.ensures in
     record {
       stays = s.stays;
       cases = λ a b ha hb.
           let f = an_arrow (g.S.Store.state c.args.store.now).contents a c.in-Some.parts (c.in-Some.ensures a ha) in
           let q = types_compared f.stand.dom hb s.sound s.complete in
-          not_applied a b f.is (sym c.if-same-type.false ∙ q);
+          not_applied a b f.is (sym c.if-same_type.false ∙ q);
     }
 
 pub returns-in-None : goal.returns-in-None

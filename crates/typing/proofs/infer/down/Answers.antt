@@ -7,12 +7,12 @@ use Rattle.typing.proofs.Refusals.{stands_still, goes_on, down-stands, free_shor
 use Rattle.typing.proofs.Steps.{free_typed, free_refused, bound_typed, bound-refused, constant_typed, constant_refused, into_function, into_body, lambda_refused}
 use Rattle.typing.proofs.infer.down.Goals as goal
 
-pub term-at-requires : goal.term-at-requires
-term-at-requires g c = down-stands c.requires.at.1
+pub term_at-requires : goal.term_at-requires
+term_at-requires g c = down-stands c.requires.at.1
 
 -- FREE VARIABLES
-pub ok-above-requires : goal.ok-above-requires
-ok-above-requires g c =
+pub ok_above-requires : goal.ok_above-requires
+ok_above-requires g c =
     let (u, e) = down-stands c.requires.at.1 in
     let v = c.in-Free.ensures u e in
     record { within = c.requires.stack; theory = c.requires.theory; stands = (v.ty, v.ty_is) }
@@ -27,7 +27,7 @@ returns-then-ok g c =
       scratch = refl;
       moves = λ th x k at.
           rw o.held
-          (free_typed th (st c.args.store.now) (st c.ok-above.new.store) (held c.args.f.now) (held c.args.scope.now) c.args.t at o.stays c.in-Free.ensures
+          (free_typed th (st c.args.store.now) (st c.ok_above.new.store) (held c.args.f.now) (held c.args.scope.now) c.args.t at o.stays c.in-Free.ensures
           (λ a h. sym c.if-ok.true ∙ o.cases th a k h));
     }
 
@@ -41,7 +41,7 @@ returns-else-ok g c =
       scratch = refl;
       moves = λ th x k at.
           rw o.held
-          (free_refused th (st c.args.store.now) (st c.ok-above.new.store) (held c.args.f.now) (held c.args.scope.now) c.args.t at o.stays c.in-Free.ensures
+          (free_refused th (st c.args.store.now) (st c.ok_above.new.store) (held c.args.f.now) (held c.args.scope.now) c.args.t at o.stays c.in-Free.ensures
           (λ a h. sym c.if-ok.false ∙ o.cases th a k h));
     }
 
@@ -82,8 +82,8 @@ returns-in-None g c =
     }
 
 -- CONSTANTS
-pub const-above-requires : goal.const-above-requires
-const-above-requires g c =
+pub const_above-requires : goal.const_above-requires
+const_above-requires g c =
     let (u, e) = down-stands c.requires.at.1 in
     let v = c.in-Constant.ensures u e in
     record { within = c.requires.stack; theory = c.requires.theory; word = (v.name, v.name_is); types = (v.args, v.args_are) }
@@ -91,34 +91,34 @@ const-above-requires g c =
 pub returns-in-Some-found : goal.returns-in-Some-found
 returns-in-Some-found g c =
     let st = g.S.Store.state in
-    let o = c.in-Ok-const-above.ensures in
+    let o = c.in-Ok-const_above.ensures in
     record {
       stack = o.frame;
       scope = stands_still c.requires.scope;
       scratch = o.scratch;
       moves = λ th x k at.
           rw o.held
-          (constant_typed th (st c.args.store.now) (st c.const-above.new.store) (held c.args.f.now) (held c.args.scope.now) c.args.t c.in-Constant.ensures at
+          (constant_typed th (st c.args.store.now) (st c.const_above.new.store) (held c.args.f.now) (held c.args.scope.now) c.args.t c.in-Constant.ensures at
           (λ u v. rw c.in-Some-found.is at (o.cases th v.name v.args k v.name_is v.args_are)));
     }
 
 pub returns-in-None-found : goal.returns-in-None-found
 returns-in-None-found g c =
     let st = g.S.Store.state in
-    let o = c.in-Ok-const-above.ensures in
+    let o = c.in-Ok-const_above.ensures in
     record {
       stack = o.frame;
       scope = stands_still c.requires.scope;
       scratch = o.scratch;
       moves = λ th x k at.
           rw o.held
-          (constant_refused th (st c.args.store.now) (st c.const-above.new.store) (held c.args.f.now) (held c.args.scope.now) c.args.t c.in-Constant.ensures at
+          (constant_refused th (st c.args.store.now) (st c.const_above.new.store) (held c.args.f.now) (held c.args.scope.now) c.args.t c.in-Constant.ensures at
           (λ u v. rw c.in-None-found.is at (o.cases th v.name v.args k v.name_is v.args_are)));
     }
 
-pub returns-in-Err-const-above : goal.returns-in-Err-const-above
-returns-in-Err-const-above g c =
-    let o = c.in-Err-const-above.ensures in
+pub returns-in-Err-const_above : goal.returns-in-Err-const_above
+returns-in-Err-const_above g c =
+    let o = c.in-Err-const_above.ensures in
     record {
       stack = o.frame;
       scope = stands_still c.requires.scope;
@@ -129,10 +129,10 @@ returns-in-Err-const-above g c =
     }
 
 -- APPLICATIONS
-pub returns-then-push-all : goal.returns-then-push-all
-returns-then-push-all g c =
+pub returns-then-push_all : goal.returns-then-push_all
+returns-then-push_all g c =
     let s = g.S.Store.state c.args.store.now in
-    let p = c.if-push-all.ensures in
+    let p = c.if-push_all.ensures in
     record {
       stack = record { within = p.within; same = p.same; top_name = p.top_name; words_name = p.words_name };
       scope = stands_still c.requires.scope;
@@ -140,9 +140,9 @@ returns-then-push-all g c =
       moves = λ th x k at. into_function th s s (held c.args.f.now) (held c.args.scope.now) c.args.t at c.in-Apply.ensures p.cases;
     }
 
-pub returns-else-push-all : goal.returns-else-push-all
-returns-else-push-all g c =
-    let p = c.if-push-all.ensures in
+pub returns-else-push_all : goal.returns-else-push_all
+returns-else-push_all g c =
+    let p = c.if-push_all.ensures in
     record {
       stack = record { within = p.within; same = p.same; top_name = p.top_name; words_name = p.words_name };
       scope = stands_still c.requires.scope;
@@ -152,8 +152,8 @@ returns-else-push-all g c =
     }
 
 -- λ
-pub ok-above-requires-in-Lambda : goal.ok-above-requires-in-Lambda
-ok-above-requires-in-Lambda g c =
+pub ok_above-requires-in-Lambda : goal.ok_above-requires-in-Lambda
+ok_above-requires-in-Lambda g c =
     let (u, e) = down-stands c.requires.at.1 in
     let v = c.in-Lambda.ensures u e in
     record { within = c.requires.stack; theory = c.requires.theory; stands = (v.ty, v.ty_is) }
@@ -161,20 +161,20 @@ ok-above-requires-in-Lambda g c =
 pub returns-then-not-ok : goal.returns-then-not-ok
 returns-then-not-ok g c =
     let st = g.S.Store.state in
-    let o = c.in-Ok-ok-above.ensures in
+    let o = c.in-Ok-ok_above.ensures in
     record {
       stack = o.frame;
       scope = stands_still c.requires.scope;
       scratch = refl;
       moves = λ th x k at.
           rw o.held
-          (lambda_refused th (st c.args.store.now) (st c.ok-above-in-Lambda.new.store) (held c.args.f.now) (held c.args.scope.now) c.args.t at o.stays c.in-Lambda.ensures
+          (lambda_refused th (st c.args.store.now) (st c.ok_above-in-Lambda.new.store) (held c.args.f.now) (held c.args.scope.now) c.args.t at o.stays c.in-Lambda.ensures
           (λ a h. sym c.if-not-ok.true ∙ o.cases th a k h));
     }
 
-pub returns-in-Err-ok-above : goal.returns-in-Err-ok-above
-returns-in-Err-ok-above g c =
-    let o = c.in-Err-ok-above.ensures in
+pub returns-in-Err-ok_above : goal.returns-in-Err-ok_above
+returns-in-Err-ok_above g c =
+    let o = c.in-Err-ok_above.ensures in
     record {
       stack = o.frame;
       scope = stands_still c.requires.scope;
@@ -182,10 +182,10 @@ returns-in-Err-ok-above g c =
       moves = λ th x k at. lambda_short th (capacity c.args.f.now) (length c.args.scratch.now) (capacity c.args.scope.now) (g.S.Store.state c.args.store.now) (held c.args.f.now) (held c.args.scope.now) c.args.t at c.in-Lambda.ensures (λ a h. o.cases th a k h);
     }
 
-pub returns-then-not-push-all : goal.returns-then-not-push-all
-returns-then-not-push-all g c =
-    let o = c.in-Ok-ok-above.ensures in
-    let p = c.if-not-push-all.ensures in
+pub returns-then-not-push_all : goal.returns-then-not-push_all
+returns-then-not-push_all g c =
+    let o = c.in-Ok-ok_above.ensures in
+    let p = c.if-not-push_all.ensures in
     record {
       stack = goes_on o.frame (record { within = p.within; same = p.same; top_name = p.top_name; words_name = p.words_name });
       scope = stands_still c.requires.scope;
@@ -196,22 +196,22 @@ returns-then-not-push-all g c =
 pub returns-then-push : goal.returns-then-push
 returns-then-push g c =
     let st = g.S.Store.state in
-    let o = c.in-Ok-ok-above.ensures in
-    let p = c.if-not-push-all.ensures in
+    let o = c.in-Ok-ok_above.ensures in
+    let p = c.if-not-push_all.ensures in
     let q = c.if-push.ensures in
     record {
       stack = goes_on o.frame (record { within = p.within; same = p.same; top_name = p.top_name; words_name = p.words_name });
       scope = record { within = q.within; same = q.same; top_name = q.top_name; words_name = q.words_name };
       scratch = refl;
       moves = λ th x k at.
-          into_body th (st c.args.store.now) (st c.ok-above-in-Lambda.new.store) (held c.args.f.now) (held c.args.scope.now) c.args.t at o.stays c.in-Lambda.ensures
+          into_body th (st c.args.store.now) (st c.ok_above-in-Lambda.new.store) (held c.args.f.now) (held c.args.scope.now) c.args.t at o.stays c.in-Lambda.ensures
           (λ a h. sym c.if-not-ok.false ∙ o.cases th a k h) (rw o.held at p.cases) q.cases;
     }
 
 pub returns-else-push : goal.returns-else-push
 returns-else-push g c =
-    let o = c.in-Ok-ok-above.ensures in
-    let p = c.if-not-push-all.ensures in
+    let o = c.in-Ok-ok_above.ensures in
+    let p = c.if-not-push_all.ensures in
     let q = c.if-push.ensures in
     record {
       stack = goes_on o.frame (record { within = p.within; same = p.same; top_name = p.top_name; words_name = p.words_name });

@@ -25,13 +25,13 @@ step-requires g c =
 pub loop-turn-preserved : goal.loop-turn-preserved
 loop-turn-preserved g c =
     let i = c.loop-turn.invariant in
-    let p = c.in-ok-turn.ensures in (
+    let p = c.in_ok-turn.ensures in (
       goes_on i.0 p.stack,
       goes_on i.1 p.scope,
       p.scratch ∙ i.2,
       λ th u k h.
           let w = i.3 th u k h in
-          goes w (p.moves th w.to ((g.T.Signature.meaning c.args.theory.now).kept _ _ th w.grows.keeps k) w.at (going w.at c.in-default.not-End c.in-default-turn.not-Untyped)),
+          goes w (p.moves th w.to ((g.T.Signature.meaning c.args.theory.now).kept _ _ th w.grows.keeps k) w.at (going w.at c.in_default.not-End c.in_default-turn.not-Untyped)),
     )
 
 pub loop-turn-smaller : goal.loop-turn-smaller
@@ -39,8 +39,8 @@ loop-turn-smaller g c =
     let (th, k) = c.requires.theory in
     let (u, h) = c.requires.stands in
     let w = c.loop-turn.invariant.3 th u k h in
-    let p = c.in-ok-turn.ensures in
-    falls w (p.moves th w.to ((g.T.Signature.meaning c.args.theory.now).kept _ _ th w.grows.keeps k) w.at (going w.at c.in-default.not-End c.in-default-turn.not-Untyped))
+    let p = c.in_ok-turn.ensures in
+    falls w (p.moves th w.to ((g.T.Signature.meaning c.args.theory.now).kept _ _ th w.grows.keeps k) w.at (going w.at c.in_default.not-End c.in_default-turn.not-Untyped))
 
 pub returns-in-End : goal.returns-in-End
 returns-in-End g c =
@@ -50,17 +50,17 @@ pub returns-in-Untyped : goal.returns-in-Untyped
 returns-in-Untyped g c =
     record { stack = search rules; scope = search rules; scratch = c.loop-turn.invariant.2; cases = λ th u k h. ends_untyped (rw c.in-Untyped.is at (c.loop-turn.invariant.3 th u k h)) }
 
-pub returns-in-err-turn : goal.returns-in-err-turn
-returns-in-err-turn g c =
+pub returns-in_err-turn : goal.returns-in_err-turn
+returns-in_err-turn g c =
     let i = c.loop-turn.invariant in
-    let p = c.in-err-turn.ensures in
+    let p = c.in_err-turn.ensures in
     record {
       stack = search rules;
       scope = search rules;
       scratch = p.scratch ∙ i.2;
       cases = λ th u k h.
           let w = i.3 th u k h in
-          answers_refused _ c.from-residual.result c.from-residual.ensures.0
+          answers_refused _ c.from_residual.result c.from_residual.ensures.0
           (refused w (room c.new-f.ensures.base c.new-f.ensures.words i.0.same) i.2 (room c.new-around.ensures.base c.new-around.ensures.words i.1.same)
-          (p.moves th w.to ((g.T.Signature.meaning c.args.theory.now).kept _ _ th w.grows.keeps k) w.at (going w.at c.in-default.not-End c.in-default-turn.not-Untyped)));
+          (p.moves th w.to ((g.T.Signature.meaning c.args.theory.now).kept _ _ th w.grows.keeps k) w.at (going w.at c.in_default.not-End c.in_default-turn.not-Untyped)));
     }

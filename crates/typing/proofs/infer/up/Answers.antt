@@ -5,53 +5,53 @@ use Rattle.typing.proofs.Refusals.{stands_still, goes_on, up_stands, function_st
 use Rattle.typing.proofs.Steps.{all_done, into_argument, application_typed, application_refused, lambda_typed}
 use Rattle.typing.proofs.infer.up.Goals as goal
 
-pub returns-in-default : goal.returns-in-default
-returns-in-default g c =
+pub returns-in_default : goal.returns-in_default
+returns-in_default g c =
     let s = g.S.Store.state c.args.store.now in
-    let p = c.in-default.ensures in
+    let p = c.in_default.ensures in
     record {
       stack = record { within = p.within; same = p.same; top_name = p.top_name; words_name = p.words_name };
       scope = stands_still c.requires.scope;
       moves = λ th x scratch at. rw p.cases.0 (all_done th s s (held c.args.f.now) (held c.args.scope.now) c.args.n at (odd_words at p.cases.1));
     }
 
-pub apply-type-requires : goal.apply-type-requires
-apply-type-requires g c =
+pub apply_type-requires : goal.apply_type-requires
+apply_type-requires g c =
     let p = c.in-Some.ensures in
     let at = c.requires.at.1 in
     record { function = function_stands at p.cases c.wait.ensures c.in-Argument.is; argument = up_stands at }
 
-pub returns-then-push-all : goal.returns-then-push-all
-returns-then-push-all g c =
+pub returns-then-push_all : goal.returns-then-push_all
+returns-then-push_all g c =
     let s = g.S.Store.state c.args.store.now in
     let p = c.in-Some.ensures in
-    let q = c.if-push-all.ensures in
+    let q = c.if-push_all.ensures in
     record {
       stack = goes_on (record { within = p.within; same = p.same; top_name = p.top_name; words_name = p.words_name }) (record { within = q.within; same = q.same; top_name = q.top_name; words_name = q.words_name });
       scope = stands_still c.requires.scope;
-      moves = λ th x scratch at. into_argument th s s (held c.args.f.now) (held c.args.scope.now) c.args.n c.in-Some.k c.in-Some.kept (held c.pop-pair.new.self) c.wait.result p.cases c.wait.ensures at c.in-Function.is q.cases;
+      moves = λ th x scratch at. into_argument th s s (held c.args.f.now) (held c.args.scope.now) c.args.n c.in-Some.k c.in-Some.kept (held c.pop_pair.new.self) c.wait.result p.cases c.wait.ensures at c.in-Function.is q.cases;
     }
 
-pub returns-else-push-all : goal.returns-else-push-all
-returns-else-push-all g c =
+pub returns-else-push_all : goal.returns-else-push_all
+returns-else-push_all g c =
     let s = g.S.Store.state c.args.store.now in
     let p = c.in-Some.ensures in
-    let q = c.if-push-all.ensures in
+    let q = c.if-push_all.ensures in
     record {
       stack = goes_on (record { within = p.within; same = p.same; top_name = p.top_name; words_name = p.words_name }) (record { within = q.within; same = q.same; top_name = q.top_name; words_name = q.words_name });
       scope = stands_still c.requires.scope;
-      moves = λ th x scratch at. argument_short th (capacity c.args.f.now) scratch (capacity c.args.scope.now) s (held c.args.f.now) (held c.args.scope.now) c.args.n c.in-Some.k c.in-Some.kept (held c.pop-pair.new.self) p.cases at (rw (same-capacity p.same) at q.cases.1);
+      moves = λ th x scratch at. argument_short th (capacity c.args.f.now) scratch (capacity c.args.scope.now) s (held c.args.f.now) (held c.args.scope.now) c.args.n c.in-Some.k c.in-Some.kept (held c.pop_pair.new.self) p.cases at (rw (same-capacity p.same) at q.cases.1);
     }
 
-pub returns-in-Some-apply-type : goal.returns-in-Some-apply-type
-returns-in-Some-apply-type g c =
+pub returns-in-Some-apply_type : goal.returns-in-Some-apply_type
+returns-in-Some-apply_type g c =
     let st = g.S.Store.state in
     let p = c.in-Some.ensures in
-    let a = c.in-Some-apply-type.ensures in
+    let a = c.in-Some-apply_type.ensures in
     record {
       stack = record { within = p.within; same = p.same; top_name = p.top_name; words_name = p.words_name };
       scope = stands_still c.requires.scope;
-      moves = λ th x scratch at. application_typed th (st c.args.store.now) (st c.apply-type.new.store) (held c.args.f.now) (held c.args.scope.now) c.args.n c.in-Some.k c.in-Some.kept (held c.pop-pair.new.self) c.wait.result p.cases c.wait.ensures at c.in-Argument.is a.stays a.cases;
+      moves = λ th x scratch at. application_typed th (st c.args.store.now) (st c.apply_type.new.store) (held c.args.f.now) (held c.args.scope.now) c.args.n c.in-Some.k c.in-Some.kept (held c.pop_pair.new.self) c.wait.result p.cases c.wait.ensures at c.in-Argument.is a.stays a.cases;
     }
 
 pub returns-in-None : goal.returns-in-None
@@ -62,7 +62,7 @@ returns-in-None g c =
     record {
       stack = record { within = p.within; same = p.same; top_name = p.top_name; words_name = p.words_name };
       scope = stands_still c.requires.scope;
-      moves = λ th x scratch at. application_refused th (st c.args.store.now) (st c.apply-type.new.store) (held c.args.f.now) (held c.args.scope.now) c.args.n c.in-Some.k c.in-Some.kept (held c.pop-pair.new.self) c.wait.result p.cases c.wait.ensures at c.in-Argument.is a.stays a.cases;
+      moves = λ th x scratch at. application_refused th (st c.args.store.now) (st c.apply_type.new.store) (held c.args.f.now) (held c.args.scope.now) c.args.n c.in-Some.k c.in-Some.kept (held c.pop_pair.new.self) c.wait.result p.cases c.wait.ensures at c.in-Argument.is a.stays a.cases;
     }
 
 pub returns-in-Ok : goal.returns-in-Ok
@@ -74,7 +74,7 @@ returns-in-Ok g c =
       stack = record { within = p.within; same = p.same; top_name = p.top_name; words_name = p.words_name };
       scope = record { within = q.within; same = q.same; top_name = q.top_name; words_name = q.words_name };
       moves = λ th x scratch at.
-          lambda_typed th (st c.args.store.now) (st c.function-type.new.store) (held c.args.f.now) (held c.args.scope.now) c.args.n c.in-Some.k c.in-Some.kept (held c.pop-pair.new.self) c.wait.result
+          lambda_typed th (st c.args.store.now) (st c.function_type.new.store) (held c.args.f.now) (held c.args.scope.now) c.args.n c.in-Some.k c.in-Some.kept (held c.pop_pair.new.self) c.wait.result
           p.cases c.wait.ensures at c.in-Body.is (λ qs z. pops_rest c.args.scope.now c.pop.new.self c.pop.result q.cases z) (λ a b ha hb. c.in-Ok.ensures a b c.requires.name ha hb);
     }
 
@@ -87,6 +87,6 @@ returns-in-Err g c =
       stack = record { within = p.within; same = p.same; top_name = p.top_name; words_name = p.words_name };
       scope = record { within = q.within; same = q.same; top_name = q.top_name; words_name = q.words_name };
       moves = λ th x scratch at.
-          function_short th (capacity c.args.f.now) scratch (capacity c.args.scope.now) s (held c.args.f.now) (held c.args.scope.now) c.args.n c.in-Some.k c.in-Some.kept (held c.pop-pair.new.self)
+          function_short th (capacity c.args.f.now) scratch (capacity c.args.scope.now) s (held c.args.f.now) (held c.args.scope.now) c.args.n c.in-Some.k c.in-Some.kept (held c.pop_pair.new.self)
           p.cases c.wait.ensures at c.in-Body.is (λ a b ha hb. c.in-Err.ensures a b c.requires.name ha hb);
     }

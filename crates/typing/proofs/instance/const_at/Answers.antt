@@ -5,11 +5,11 @@ use Rattle.typing.proofs.Restored.{restores_on, same-room, still_within}
 use Rattle.typing.proofs.Instancing.{const-instance, const_none, const-room, const_tight, const_typed}
 use Rattle.typing.proofs.instance.const_at.Goals as goal
 
-pub ok-types-requires : goal.ok-types-requires
-ok-types-requires g c =
+pub ok_types-requires : goal.ok_types-requires
+ok_types-requires g c =
     let (th, k) = c.requires.theory in
     let (bs, h) = c.requires.types in
-    let s = c.const-type.ensures.stays.grows.keeps in
+    let s = c.const_type.ensures.stays.grows.keeps in
     record { stack = c.requires.stack; theory = (th, (g.T.Signature.meaning c.args.theory.now).kept _ _ th s k); stands = (bs, s.types _ bs h) }
 
 pub instance-requires : goal.instance-requires
@@ -17,7 +17,7 @@ instance-requires g c =
     let (th, k) = c.requires.theory in
     let (w, hw) = c.requires.word in
     let (bs, h) = c.requires.types in
-    let s = c.const-type.ensures.stays.grows.keeps in
+    let s = c.const_type.ensures.stays.grows.keeps in
     let o = c.in-Ok.ensures in
     let t = o.stays.grows.keeps in
     let f = c.in-Some.ensures.found th w k hw in
@@ -25,7 +25,7 @@ instance-requires g c =
 
 pub returns-then-ok : goal.returns-then-ok
 returns-then-ok g c =
-    let s = c.const-type.ensures.stays in
+    let s = c.const_type.ensures.stays in
     let o = c.in-Ok.ensures in
     let i = c.instance.ensures in
     record {
@@ -44,7 +44,7 @@ returns-then-ok g c =
 
 pub returns-else-ok : goal.returns-else-ok
 returns-else-ok g c =
-    let s = c.const-type.ensures.stays in
+    let s = c.const_type.ensures.stays in
     let o = c.in-Ok.ensures in
     record {
       stack = o.stack;
@@ -57,7 +57,7 @@ returns-else-ok g c =
 
 pub returns-in-Err : goal.returns-in-Err
 returns-in-Err g c =
-    let s = c.const-type.ensures.stays in
+    let s = c.const_type.ensures.stays in
     let o = c.in-Err.ensures in
     record {
       stack = o.stack;

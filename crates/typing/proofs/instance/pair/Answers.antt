@@ -5,8 +5,8 @@ use Rattle.typing.proofs.instance.pair.Goals as goal
 pub loop-at-init : goal.loop-at-init
 loop-at-init g c = (refl, λ ws bs h e q. begin c.requires.room h e q)
 
-pub types-at-requires : goal.types-at-requires
-types-at-requires g c =
+pub types_at-requires : goal.types_at-requires
+types_at-requires g c =
     let (ws, h) = c.requires.names in
     let (bs, e, q) = c.requires.types in
     let p = c.loop-at.invariant.1 ws bs h e q in

@@ -4,8 +4,8 @@ use Rattle.store.proofs.Growth.{stays_on}
 use Rattle.typing.proofs.OkLists.{named_ok, answers_for}
 use Rattle.typing.proofs.ok.ok_type.Goals as goal
 
-pub ok-types-requires : goal.ok-types-requires
-ok-types-requires g c =
+pub ok_types-requires : goal.ok_types-requires
+ok_types-requires g c =
     let (th, k) = c.requires.theory in
     let (b, h) = c.requires.stands in
     let v = c.in-Named.ensures b h in
@@ -15,7 +15,7 @@ ok-types-requires g c =
 pub returns-then-takes : goal.returns-then-takes
 returns-then-takes g c =
     let s = c.takes.ensures.stays in
-    let o = c.ok-types.ensures in
+    let o = c.ok_types.ensures in
     record {
       stack = o.stack;
       stays = stays_on s o.stays;
@@ -24,5 +24,5 @@ returns-then-takes g c =
           let e = named_ok th b v.is (sym c.if-takes.true ∙ c.takes.ensures.takes th v.name v.args k v.name_is v.args_are) in
           let know = (g.T.Signature.meaning c.args.theory.now).kept _ _ th s.grows.keeps k in
           let n = ap nodes_ty v.is in
-          answers_for c.ok-types.result (λ l. omega (arith, l, n)) (λ x q. q ∙ e) (o.cases th v.args know (s.grows.keeps.types _ v.args v.args_are));
+          answers_for c.ok_types.result (λ l. omega (arith, l, n)) (λ x q. q ∙ e) (o.cases th v.args know (s.grows.keeps.types _ v.args v.args_are));
     }

@@ -8,8 +8,8 @@ returns-then-n-len c =
     let f = c.args.scope.now in
     nth_none f.words.now f.base (f.top.now - f.base) c.args.n (omega (arith, c.if-n-len.true, c.len-len.ensures, above-length f.words.now f.base (f.top.now - f.base)))
 
-pub overflow-sub-result-2 : goal.overflow-sub-result-2
-overflow-sub-result-2 c =
+pub overflow_sub-result-2 : goal.overflow_sub-result-2
+overflow_sub-result-2 c =
     let f = c.args.scope.now in
     omega (arith, c.if-n-len.false, c.len-len.ensures, above-length f.words.now f.base (f.top.now - f.base))
 

@@ -26,8 +26,8 @@ loop-next-init g c =
           (omega arith),
     )
 
-pub term-at-view-requires : goal.term-at-view-requires
-term-at-view-requires g c = let (u, h) = c.requires.stands in newest (c.loop-next.invariant.1 u h) c.in-Some.ensures.cases
+pub term_at-view-requires : goal.term_at-view-requires
+term_at-view-requires g c = let (u, h) = c.requires.stands in newest (c.loop-next.invariant.1 u h) c.in-Some.ensures.cases
 
 pub returns-in-Free : goal.returns-in-Free
 returns-in-Free g c =
@@ -42,8 +42,8 @@ returns-in-Free g c =
           decides p e.cases t f false (ap closed v.is) run_open;
     }
 
-pub returns-then-not-push-subterms : goal.returns-then-not-push-subterms
-returns-then-not-push-subterms g c =
+pub returns-then-not-push_subterms : goal.returns-then-not-push_subterms
+returns-then-not-push_subterms g c =
     let e = c.in-Some.ensures in
     let n = c.new-pending.ensures in
     let k = same_trans c.push.ensures.same (same_trans c.loop-next.invariant.0.same e.same) in
@@ -51,27 +51,27 @@ returns-then-not-push-subterms g c =
       stack = search rules;
       cases = λ u h.
           let l = pass_fits closing_passes (g.S.Store.state c.args.store.now).contents (c.loop-next.invariant.1 u h)
-          e.cases c.term-at-view.result c.term-at-view.ensures c.in-default-view.not-Free in
-          lent_room _ _ (nodes_tm u) n.base n.words k (omega (arith, l, c.if-not-push-subterms.ensures.cases.1));
+          e.cases c.term_at-view.result c.term_at-view.ensures c.in_default-view.not-Free in
+          lent_room _ _ (nodes_tm u) n.base n.words k (omega (arith, l, c.if-not-push_subterms.ensures.cases.1));
     }
 
 pub loop-next-smaller : goal.loop-next-smaller
 loop-next-smaller g c =
     let (u, h) = c.requires.stands in
     pass_falls closing_passes (g.S.Store.state c.args.store.now).contents (c.loop-next.invariant.1 u h)
-    c.in-Some.ensures.cases c.term-at-view.result c.term-at-view.ensures c.in-default-view.not-Free
-    c.if-not-push-subterms.ensures.cases
+    c.in-Some.ensures.cases c.term_at-view.result c.term_at-view.ensures c.in_default-view.not-Free
+    c.if-not-push_subterms.ensures.cases
 
 pub loop-next-preserved : goal.loop-next-preserved
 loop-next-preserved g c =
     let e = c.in-Some.ensures in
-    let s = c.if-not-push-subterms.ensures in (
+    let s = c.if-not-push_subterms.ensures in (
       moved (moved c.loop-next.invariant.0 e.within e.same e.top_name e.words_name) s.within s.same s.top_name
           s.words_name,
       λ u h. pass_turned closing_passes (g.S.Store.state c.args.store.now).contents
-          (c.loop-next.invariant.1 u h) e.cases c.term-at-view.result c.term-at-view.ensures c.in-default-view.not-Free
+          (c.loop-next.invariant.1 u h) e.cases c.term_at-view.result c.term_at-view.ensures c.in_default-view.not-Free
           s.cases,
     )
 
 pub returns : goal.returns
-returns g c = record { stack = search rules; cases = λ u h. ended (c.loop-next.invariant.1 u h) c.in-default.ensures.cases.1 }
+returns g c = record { stack = search rules; cases = λ u h. ended (c.loop-next.invariant.1 u h) c.in_default.ensures.cases.1 }

@@ -29,30 +29,30 @@ loop-next-init g c =
           u h false refl 0 (omega arith),
     )
 
-pub term-at-view-requires : goal.term-at-view-requires
-term-at-view-requires g c = let p = c.requires in newest
+pub term_at-view-requires : goal.term_at-view-requires
+term_at-view-requires g c = let p = c.requires in newest
     (c.loop-next.invariant.2 p.name.0 p.typ.0 p.term.0 p.name.1 p.typ.1 p.term.1)
     c.in-Some.ensures.cases
 
-pub returns-then-same-variable : goal.returns-then-same-variable
-returns-then-same-variable g c =
+pub returns-then-same_variable : goal.returns-then-same_variable
+returns-then-same_variable g c =
     let e = c.in-Some.ensures in
     let k = same_trans c.push.ensures.same (same_trans c.loop-next.invariant.0.same e.same) in
     let s = c.loop-next.invariant.1 in
     record {
       stack = search rules;
-      stays = stays_on s c.same-variable.ensures.stays;
+      stays = stays_on s c.same_variable.ensures.stays;
       cases = λ y b u hy hb h.
           let p = c.loop-next.invariant.2 y b u hy hb h in
           let (t, f) = newest p e.cases in
           let v = c.in-Free.ensures t f in
-          let same = c.same-variable.ensures.same y b v.name v.ty (s.grows.keeps.word _ y hy)
+          let same = c.same_variable.ensures.same y b v.name v.ty (s.grows.keeps.word _ y hy)
           (s.grows.keeps.typ _ b hb) v.name_is v.ty_is in
-          decides p e.cases t f true (ap (free_in y b) v.is ∙ (sym same ∙ c.if-same-variable.true)) (run-found y b);
+          decides p e.cases t f true (ap (free_in y b) v.is ∙ (sym same ∙ c.if-same_variable.true)) (run-found y b);
     }
 
-pub loop-next-smaller-else-same-variable : goal.loop-next-smaller-else-same-variable
-loop-next-smaller-else-same-variable g c =
+pub loop-next-smaller-else-same_variable : goal.loop-next-smaller-else-same_variable
+loop-next-smaller-else-same_variable g c =
     let e = c.in-Some.ensures in
     let n = c.requires.name in
     let a = c.requires.typ in
@@ -60,30 +60,30 @@ loop-next-smaller-else-same-variable g c =
     let p = c.loop-next.invariant.2 n.0 a.0 c.requires.term.0 n.1 a.1 c.requires.term.1 in
     let (t, f) = newest p e.cases in
     let v = c.in-Free.ensures t f in
-    let same = c.same-variable.ensures.same n.0 a.0 v.name v.ty (s.grows.keeps.word _ n.0 n.1)
+    let same = c.same_variable.ensures.same n.0 a.0 v.name v.ty (s.grows.keeps.word _ n.0 n.1)
     (s.grows.keeps.typ _ a.0 a.1) v.name_is v.ty_is in
-    let d = ap (free_in n.0 a.0) v.is ∙ (sym same ∙ c.if-same-variable.false) in
-    skip_falls c.same-variable.ensures.stays.grows.keeps.term p e.cases t f d (nodes_positive t)
+    let d = ap (free_in n.0 a.0) v.is ∙ (sym same ∙ c.if-same_variable.false) in
+    skip_falls c.same_variable.ensures.stays.grows.keeps.term p e.cases t f d (nodes_positive t)
 
-pub loop-next-preserved-else-same-variable : goal.loop-next-preserved-else-same-variable
-loop-next-preserved-else-same-variable g c =
+pub loop-next-preserved-else-same_variable : goal.loop-next-preserved-else-same_variable
+loop-next-preserved-else-same_variable g c =
     let e = c.in-Some.ensures in
     let s = c.loop-next.invariant.1 in
-    let k = c.same-variable.ensures.stays in (
+    let k = c.same_variable.ensures.stays in (
       moved c.loop-next.invariant.0 e.within e.same e.top_name e.words_name,
       stays_on s k,
       λ y b u hy hb h.
           let p = c.loop-next.invariant.2 y b u hy hb h in
           let (t, f) = newest p e.cases in
           let v = c.in-Free.ensures t f in
-          let same = c.same-variable.ensures.same y b v.name v.ty (s.grows.keeps.word _ y hy)
+          let same = c.same_variable.ensures.same y b v.name v.ty (s.grows.keeps.word _ y hy)
           (s.grows.keeps.typ _ b hb) v.name_is v.ty_is in
-          let d = ap (free_in y b) v.is ∙ (sym same ∙ c.if-same-variable.false) in
+          let d = ap (free_in y b) v.is ∙ (sym same ∙ c.if-same_variable.false) in
           skip_turned k.grows.keeps.term p e.cases t f d (nodes_positive t),
     )
 
-pub returns-then-not-push-subterms : goal.returns-then-not-push-subterms
-returns-then-not-push-subterms g c =
+pub returns-then-not-push_subterms : goal.returns-then-not-push_subterms
+returns-then-not-push_subterms g c =
     let e = c.in-Some.ensures in
     let n = c.new-pending.ensures in
     let k = same_trans c.push.ensures.same (same_trans c.loop-next.invariant.0.same e.same) in
@@ -92,9 +92,9 @@ returns-then-not-push-subterms g c =
       stays = c.loop-next.invariant.1;
       cases = λ y b u hy hb h.
           let l = pass_fits (seeking_passes y b) (g.S.Store.state c.loop-next.store).contents
-          (c.loop-next.invariant.2 y b u hy hb h) e.cases c.term-at-view.result c.term-at-view.ensures
-          c.in-default-view.not-Free in
-          lent_room _ _ (nodes_tm u) n.base n.words k (omega (arith, l, c.if-not-push-subterms.ensures.cases.1));
+          (c.loop-next.invariant.2 y b u hy hb h) e.cases c.term_at-view.result c.term_at-view.ensures
+          c.in_default-view.not-Free in
+          lent_room _ _ (nodes_tm u) n.base n.words k (omega (arith, l, c.if-not-push_subterms.ensures.cases.1));
     }
 
 pub loop-next-smaller : goal.loop-next-smaller
@@ -102,24 +102,24 @@ loop-next-smaller g c =
     let p = c.requires in
     pass_falls (seeking_passes p.name.0 p.typ.0) (g.S.Store.state c.loop-next.store).contents
     (c.loop-next.invariant.2 p.name.0 p.typ.0 p.term.0 p.name.1 p.typ.1 p.term.1)
-    c.in-Some.ensures.cases c.term-at-view.result c.term-at-view.ensures c.in-default-view.not-Free
-    c.if-not-push-subterms.ensures.cases
+    c.in-Some.ensures.cases c.term_at-view.result c.term_at-view.ensures c.in_default-view.not-Free
+    c.if-not-push_subterms.ensures.cases
 
 pub loop-next-preserved : goal.loop-next-preserved
 loop-next-preserved g c =
     let e = c.in-Some.ensures in
-    let s = c.if-not-push-subterms.ensures in (
+    let s = c.if-not-push_subterms.ensures in (
       moved (moved c.loop-next.invariant.0 e.within e.same e.top_name e.words_name) s.within s.same s.top_name
           s.words_name,
       c.loop-next.invariant.1,
       λ y b u hy hb h. pass_turned (seeking_passes y b)
           (g.S.Store.state c.loop-next.store).contents (c.loop-next.invariant.2 y b u hy hb h) e.cases
-          c.term-at-view.result c.term-at-view.ensures c.in-default-view.not-Free s.cases,
+          c.term_at-view.result c.term_at-view.ensures c.in_default-view.not-Free s.cases,
     )
 
 pub returns : goal.returns
 returns g c = record {
   stack = search rules;
   stays = c.loop-next.invariant.1;
-  cases = λ y b u hy hb h. ended (c.loop-next.invariant.2 y b u hy hb h) c.in-default.ensures.cases.1;
+  cases = λ y b u hy hb h. ended (c.loop-next.invariant.2 y b u hy hb h) c.in_default.ensures.cases.1;
 }

@@ -8,8 +8,8 @@ returns-in-Free g c =
     let f = c.args.pending.now in
     let w = c.requires.within in
     let n = c.args.count.now in
-    let t = c.tyvars-type.ensures in
-    let last = c.tyvars-type.new in
+    let t = c.tyvars_type.ensures in
+    let last = c.tyvars_type.new in
     let a = came_back f w t.stack in
     record {
       within = record { low = w.low; high = a.high };
@@ -22,7 +22,7 @@ returns-in-Free g c =
       cases = λ u ws says h.
           let v = rw c.in-Free.is at says in
           own_gathered f w u _ v.is (length c.args.names.now - n) (g.S.Store.state last.store).contents ws n
-          last.names last.count c.tyvars-type.result (t.cases v.ty ws v.ty_is h);
+          last.names last.count c.tyvars_type.result (t.cases v.ty ws v.ty_is h);
     }
 
 pub returns-in-Constant : goal.returns-in-Constant
@@ -30,8 +30,8 @@ returns-in-Constant g c =
     let f = c.args.pending.now in
     let w = c.requires.within in
     let n = c.args.count.now in
-    let t = c.tyvars-types.ensures in
-    let last = c.tyvars-types.new in
+    let t = c.tyvars_types.ensures in
+    let last = c.tyvars_types.new in
     let a = came_back f w t.stack in
     record {
       within = record { low = w.low; high = a.high };
@@ -44,7 +44,7 @@ returns-in-Constant g c =
       cases = λ u ws says h.
           let v = rw c.in-Constant.is at says in
           own_gathered f w u _ v.is (length c.args.names.now - n) (g.S.Store.state last.store).contents ws n
-          last.names last.count c.tyvars-types.result (t.cases v.args ws v.args_are h);
+          last.names last.count c.tyvars_types.result (t.cases v.args ws v.args_are h);
     }
 
 pub returns-in-Lambda : goal.returns-in-Lambda
@@ -52,8 +52,8 @@ returns-in-Lambda g c =
     let f = c.args.pending.now in
     let w = c.requires.within in
     let n = c.args.count.now in
-    let t = c.tyvars-type-in-Lambda.ensures in
-    let last = c.tyvars-type-in-Lambda.new in
+    let t = c.tyvars_type-in-Lambda.ensures in
+    let last = c.tyvars_type-in-Lambda.new in
     let a = came_back f w t.stack in
     record {
       within = record { low = w.low; high = a.high };
@@ -66,5 +66,5 @@ returns-in-Lambda g c =
       cases = λ u ws says h.
           let v = rw c.in-Lambda.is at says in
           own_gathered f w u _ v.is (length c.args.names.now - n) (g.S.Store.state last.store).contents ws n
-          last.names last.count c.tyvars-type-in-Lambda.result (t.cases v.ty ws v.ty_is h);
+          last.names last.count c.tyvars_type-in-Lambda.result (t.cases v.ty ws v.ty_is h);
     }

@@ -26,14 +26,14 @@ loop-next-init g c =
       },
     )
 
-pub term-at-view-requires : goal.term-at-view-requires
-term-at-view-requires g c =
+pub term_at-view-requires : goal.term_at-view-requires
+term_at-view-requires g c =
     let p = c.requires in
     newest (c.loop-next.invariant.3 p.stands.0 p.names.0 p.stands.1 p.names.1).pending
     c.in-Some.ensures.cases
 
-pub tyvars-node-requires : goal.tyvars-node-requires
-tyvars-node-requires g c =
+pub tyvars_node-requires : goal.tyvars_node-requires
+tyvars_node-requires g c =
     let p = c.requires in
     let q = c.loop-next.invariant.3 p.stands.0 p.names.0 p.stands.1 p.names.1 in
     let e = c.in-Some.ensures in
@@ -41,26 +41,26 @@ tyvars-node-requires g c =
       within = e.within;
       count = c.loop-next.invariant.2.high;
       names = (q.gathered, q.names);
-      stands = viewed (g.S.Store.state c.loop-next.store).contents q e.cases c.term-at-view.result
-          c.term-at-view.ensures;
+      stands = viewed (g.S.Store.state c.loop-next.store).contents q e.cases c.term_at-view.result
+          c.term_at-view.ensures;
     }
 
 pub loop-next-smaller : goal.loop-next-smaller
 loop-next-smaller g c =
     let p = c.requires in
     let q = c.loop-next.invariant.3 p.stands.0 p.names.0 p.stands.1 p.names.1 in
-    let v = c.term-at-view.result in
-    let t = c.in-default-tyvars-node.ensures in
-    term-falls (g.S.Store.state c.loop-next.store).contents q c.in-Some.ensures.cases v c.term-at-view.ensures
+    let v = c.term_at-view.result in
+    let t = c.in_default-tyvars_node.ensures in
+    term-falls (g.S.Store.state c.loop-next.store).contents q c.in-Some.ensures.cases v c.term_at-view.ensures
     t.stays.grows.keeps c.loop-next.invariant.2.high t.adds (λ u says. t.cases u q.gathered says q.names)
-    (c.if-not-push-subterms.ensures.cases ∙ ap (onto (below v)) t.held)
+    (c.if-not-push_subterms.ensures.cases ∙ ap (onto (below v)) t.held)
 
 pub loop-next-preserved : goal.loop-next-preserved
 loop-next-preserved g c =
     let e = c.in-Some.ensures in
-    let s = c.if-not-push-subterms.ensures in
-    let v = c.term-at-view.result in
-    let t = c.in-default-tyvars-node.ensures in
+    let s = c.if-not-push_subterms.ensures in
+    let v = c.term_at-view.result in
+    let t = c.in_default-tyvars_node.ensures in
     let a = c.loop-next.invariant.2 in
     let f = moved c.loop-next.invariant.0 e.within e.same e.top_name e.words_name in
     let n = moved f t.within t.same t.top_name t.words_name in (
@@ -69,7 +69,7 @@ loop-next-preserved g c =
       adds_trans a t.adds,
       λ u ws hu h.
           let q = c.loop-next.invariant.3 u ws hu h in
-          term_turned (g.S.Store.state c.loop-next.store).contents q e.cases v c.term-at-view.ensures
+          term_turned (g.S.Store.state c.loop-next.store).contents q e.cases v c.term_at-view.ensures
           t.stays.grows.keeps a.high t.adds (λ x says. t.cases x q.gathered says q.names)
           (s.cases ∙ ap (onto (below v)) t.held),
     )
@@ -88,8 +88,8 @@ returns-in-Err g c =
       adds = adds_back (adds_trans a t.adds);
       cases = λ u ws hu h.
           let q = c.loop-next.invariant.3 u ws hu h in
-          let (x, says, l) = own_fits (g.S.Store.state c.loop-next.store).contents q e.cases c.term-at-view.result
-          c.term-at-view.ensures in (
+          let (x, says, l) = own_fits (g.S.Store.state c.loop-next.store).contents q e.cases c.term_at-view.result
+          c.term_at-view.ensures in (
             refl,
             elim (t.cases x q.gathered says q.names).1 [
               | inl r ↦ inl (lent_room _ _ (nodes_tm u) n.base n.words m (omega (arith, l, r, a.low)))
@@ -98,13 +98,13 @@ returns-in-Err g c =
           );
     }
 
-pub returns-then-not-push-subterms : goal.returns-then-not-push-subterms
-returns-then-not-push-subterms g c =
+pub returns-then-not-push_subterms : goal.returns-then-not-push_subterms
+returns-then-not-push_subterms g c =
     let e = c.in-Some.ensures in
     let n = c.new-pending.ensures in
-    let t = c.in-default-tyvars-node.ensures in
+    let t = c.in_default-tyvars_node.ensures in
     let a = adds_trans c.loop-next.invariant.2 t.adds in
-    let v = c.term-at-view.result in
+    let v = c.term_at-view.result in
     let k = same_trans c.push.ensures.same (same_trans c.loop-next.invariant.0.same (same_trans e.same t.same)) in
     record {
       stack = search rules;
@@ -112,12 +112,12 @@ returns-then-not-push-subterms g c =
       adds = adds_back a;
       cases = λ u ws hu h.
           let q = c.loop-next.invariant.3 u ws hu h in
-          let l = term_fits (g.S.Store.state c.loop-next.store).contents q e.cases v c.term-at-view.ensures
+          let l = term_fits (g.S.Store.state c.loop-next.store).contents q e.cases v c.term_at-view.ensures
           t.stays.grows.keeps c.loop-next.invariant.2.high t.adds (λ x says. t.cases x q.gathered says q.names)
           in (
             refl,
             inl (lent_room _ _ (nodes_tm u) n.base n.words k
-                (omega (arith, l, a.low, ap length t.held, c.if-not-push-subterms.ensures.cases.1))),
+                (omega (arith, l, a.low, ap length t.held, c.if-not-push_subterms.ensures.cases.1))),
           );
     }
 
@@ -126,7 +126,7 @@ returns g c = record {
   stack = search rules;
   stays = c.loop-next.invariant.1;
   adds = c.loop-next.invariant.2;
-  cases = λ u ws hu h. gathered_all (c.loop-next.invariant.3 u ws hu h) c.in-default.ensures.cases.1;
+  cases = λ u ws hu h. gathered_all (c.loop-next.invariant.3 u ws hu h) c.in_default.ensures.cases.1;
 }
 
 pub returns-then-not-push : goal.returns-then-not-push

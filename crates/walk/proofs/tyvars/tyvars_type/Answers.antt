@@ -23,7 +23,7 @@ returns-in-Variable g c =
 
 pub returns-in-Named : goal.returns-in-Named
 returns-in-Named g c =
-    let t = c.tyvars-types.ensures in
+    let t = c.tyvars_types.ensures in
     record {
       stack = t.stack;
       stays = t.stays;

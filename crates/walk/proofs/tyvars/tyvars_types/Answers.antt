@@ -24,14 +24,14 @@ loop-next-init g c =
       },
     )
 
-pub first-type-first-requires : goal.first-type-first-requires
-first-type-first-requires g c =
+pub first_type-first-requires : goal.first_type-first-requires
+first_type-first-requires g c =
     let p = c.requires in
     newest (c.loop-next.invariant.3 p.stands.0 p.names.0 p.stands.1 p.names.1).pending
     c.in-Some.ensures.cases
 
-pub returns-then-not-push-behind : goal.returns-then-not-push-behind
-returns-then-not-push-behind g c =
+pub returns-then-not-push_behind : goal.returns-then-not-push_behind
+returns-then-not-push_behind g c =
     let e = c.in-Some.ensures in
     let n = c.new-pending.ensures in
     let k = same_trans c.push.ensures.same (same_trans c.loop-next.invariant.0.same e.same) in
@@ -42,10 +42,10 @@ returns-then-not-push-behind g c =
       adds = adds_back a;
       cases = λ bs ws hb h.
           let l = list-fits (g.S.Store.state c.loop-next.store).contents (c.loop-next.invariant.3 bs ws hb h).pending
-          e.cases c.first-type-first.result c.first-type-first.ensures in (
+          e.cases c.first_type-first.result c.first_type-first.ensures in (
             refl,
             inl (lent_room _ _ (size_tys bs) n.base n.words k
-                (omega (arith, l, a.low, c.if-not-push-behind.ensures.cases.1))),
+                (omega (arith, l, a.low, c.if-not-push_behind.ensures.cases.1))),
           );
     }
 
@@ -54,12 +54,12 @@ loop-next-smaller g c =
     let p = c.requires in
     list-falls (g.S.Store.state c.loop-next.store).contents
     (c.loop-next.invariant.3 p.stands.0 p.names.0 p.stands.1 p.names.1).pending c.in-Some.ensures.cases
-    c.first-type-first.result c.first-type-first.ensures c.if-not-push-behind.ensures.cases
+    c.first_type-first.result c.first_type-first.ensures c.if-not-push_behind.ensures.cases
 
 pub loop-next-preserved : goal.loop-next-preserved
 loop-next-preserved g c =
     let e = c.in-Some.ensures in
-    let s = c.if-not-push-behind.ensures in (
+    let s = c.if-not-push_behind.ensures in (
       moved (moved c.loop-next.invariant.0 e.within e.same e.top_name e.words_name) s.within s.same s.top_name
           s.words_name,
       c.loop-next.invariant.1,
@@ -70,7 +70,7 @@ loop-next-preserved g c =
             gathered = i.gathered;
             names = i.names;
             pending = plain_turned (g.S.Store.state c.loop-next.store).contents i.pending e.cases
-                c.first-type-first.result c.first-type-first.ensures c.in-default-first.not-Variable s.cases;
+                c.first_type-first.result c.first_type-first.ensures c.in_default-first.not-Variable s.cases;
           },
     )
 
@@ -79,7 +79,7 @@ returns g c = record {
   stack = search rules;
   stays = c.loop-next.invariant.1;
   adds = c.loop-next.invariant.2;
-  cases = λ bs ws hb h. gathered_all (c.loop-next.invariant.3 bs ws hb h) c.in-default.ensures.cases.1;
+  cases = λ bs ws hb h. gathered_all (c.loop-next.invariant.3 bs ws hb h) c.in_default.ensures.cases.1;
 }
 
 -- WHERE THE LIST BEGINS WITH A VARIABLE
@@ -87,7 +87,7 @@ pub returns-in-Err : goal.returns-in-Err
 returns-in-Err g c =
     let e = c.in-Some.ensures in
     let k = same_trans c.push.ensures.same
-    (same_trans c.loop-next.invariant.0.same (same_trans e.same c.push-behind.ensures.same)) in
+    (same_trans c.loop-next.invariant.0.same (same_trans e.same c.push_behind.ensures.same)) in
     let a = c.loop-next.invariant.2 in
     let i = c.in-Err.ensures in
     record {
@@ -103,20 +103,20 @@ returns-in-Err g c =
           (refl, inr (omega (arith, l, a.len, (i.cases w q.gathered f q.names).1)));
     }
 
-pub loop-next-smaller-in-default-insert : goal.loop-next-smaller-in-default-insert
-loop-next-smaller-in-default-insert g c =
+pub loop-next-smaller-in_default-insert : goal.loop-next-smaller-in_default-insert
+loop-next-smaller-in_default-insert g c =
     let p = c.requires in
-    let b = c.if-not-push-behind.ensures.cases ∙ ap (λ v. onto (behind v) (held c.pop.new.self)) c.in-Variable.is
+    let b = c.if-not-push_behind.ensures.cases ∙ ap (λ v. onto (behind v) (held c.pop.new.self)) c.in-Variable.is
     in
     inserted_falls c.insert.ensures.stays.grows.keeps
     (c.loop-next.invariant.3 p.stands.0 p.names.0 p.stands.1 p.names.1) c.in-Some.ensures.cases
     c.in-Variable.ensures b
 
-pub loop-next-preserved-in-default-insert : goal.loop-next-preserved-in-default-insert
-loop-next-preserved-in-default-insert g c =
+pub loop-next-preserved-in_default-insert : goal.loop-next-preserved-in_default-insert
+loop-next-preserved-in_default-insert g c =
     let e = c.in-Some.ensures in
-    let s = c.if-not-push-behind.ensures in
-    let i = c.in-default-insert.ensures in
+    let s = c.if-not-push_behind.ensures in
+    let i = c.in_default-insert.ensures in
     let a = c.loop-next.invariant.2 in
     let b = s.cases ∙ ap (λ v. onto (behind v) (held c.pop.new.self)) c.in-Variable.is in (
       moved (moved c.loop-next.invariant.0 e.within e.same e.top_name e.words_name) s.within s.same s.top_name

@@ -11,8 +11,8 @@ view-requires g c =
     let k = c.loop-h.invariant.2 _ _ _ c.requires.name.1 c.requires.typ.1 c.requires.list.1 in
     record { stands = (k.ahead, k.ahead_is) }
 
-pub free-in-requires : goal.free-in-requires
-free-in-requires g c =
+pub free_in-requires : goal.free_in-requires
+free_in-requires g c =
     let k = c.loop-h.invariant.2 _ _ _ c.requires.name.1 c.requires.typ.1 c.requires.list.1 in
     let v = c.in-Cons.ensures k.ahead k.ahead_is in
     let keeps = k.stays.grows.keeps in
@@ -28,8 +28,8 @@ returns-then-free g c =
     let inv = c.loop-h.invariant in
     let at = inv.2 _ _ _ c.requires.name.1 c.requires.typ.1 c.requires.list.1 in
     record {
-      space = c.free-in.ensures.stack.len ∙ inv.1;
-      stays = stays_on at.stays c.free-in.ensures.stays;
+      space = c.free_in.ensures.stack.len ∙ inv.1;
+      stays = stays_on at.stays c.free_in.ensures.stays;
       cases = λ y b us p q h.
           let k = inv.2 y b us p q h in
           let v = c.in-Cons.ensures k.ahead k.ahead_is in
@@ -42,8 +42,8 @@ returns-in-Err g c =
     let inv = c.loop-h.invariant in
     let at = inv.2 _ _ _ c.requires.name.1 c.requires.typ.1 c.requires.list.1 in
     record {
-      space = c.free-in.ensures.stack.len ∙ inv.1;
-      stays = stays_on at.stays c.free-in.ensures.stays;
+      space = c.free_in.ensures.stack.len ∙ inv.1;
+      stays = stays_on at.stays c.free_in.ensures.stays;
       cases = λ y b us p q h.
           let k = inv.2 y b us p q h in
           let v = c.in-Cons.ensures k.ahead k.ahead_is in
@@ -56,18 +56,18 @@ returns-in-Err g c =
 pub loop-h-smaller : goal.loop-h-smaller
 loop-h-smaller g c =
     let k = c.loop-h.invariant.2 _ _ _ c.requires.name.1 c.requires.typ.1 c.requires.list.1 in
-    fewer c.loop-h.rest k.ahead_is (c.in-Cons.ensures k.ahead k.ahead_is) c.free-in.ensures.stays.grows.keeps
+    fewer c.loop-h.rest k.ahead_is (c.in-Cons.ensures k.ahead k.ahead_is) c.free_in.ensures.stays.grows.keeps
 
 pub loop-h-preserved : goal.loop-h-preserved
 loop-h-preserved g c =
     let inv = c.loop-h.invariant in (
       inv.0,
-      c.free-in.ensures.stack.len ∙ inv.1,
+      c.free_in.ensures.stack.len ∙ inv.1,
       λ y b us p q h.
           let k = inv.2 y b us p q h in
           let v = c.in-Cons.ensures k.ahead k.ahead_is in
           let keeps = k.stays.grows.keeps in
-          next k v (sym c.if-free.false ∙ c.in-Ok.ensures.cases y b v.head (keeps.word _ _ p) (keeps.typ _ _ q) v.head_is) c.free-in.ensures.stays,
+          next k v (sym c.if-free.false ∙ c.in-Ok.ensures.cases y b v.head (keeps.word _ _ p) (keeps.typ _ _ q) v.head_is) c.free_in.ensures.stays,
     )
 
 pub returns : goal.returns
@@ -79,5 +79,5 @@ returns g c =
       stays = at.stays;
       cases = λ y b us p q h.
           let k = inv.2 y b us p q h in
-          passed (ended k (c.in-default.ensures k.ahead k.ahead_is)) inv.0;
+          passed (ended k (c.in_default.ensures k.ahead k.ahead_is)) inv.0;
     }

@@ -6,20 +6,20 @@ use Rattle.workspace.proofs.Serving.{rooming, lacks_one, lacks_more, lacks_after
 use Rattle.workspace.proofs.Joining.{behind}
 use Rattle.workspace.proofs.lists.join_without.Goals as goal
 
-pub returns-in-err-rest : goal.returns-in-err-rest
-returns-in-err-rest g c =
-    let k = c.in-err-rest.ensures.cases in
+pub returns-in_err-rest : goal.returns-in_err-rest
+returns-in_err-rest g c =
+    let k = c.in_err-rest.ensures.cases in
     record {
       space = search rules;
       cases = λ us vs x y h₁ h₂ h₃ h₄.
           let short = rw k.0.1 at (c.remove-removed.ensures.cases y vs h₄ h₂) in
           let n = behind (remove x us) (remove y vs) in
-          rw c.from-residual.ensures (undone (lacks_more (omega arith) (omega arith) (lacks_one short)) k.1);
+          rw c.from_residual.ensures (undone (lacks_more (omega arith) (omega arith) (lacks_one short)) k.1);
     }
 
-pub union-removing-answer-requires : goal.union-removing-answer-requires
-union-removing-answer-requires g c =
-    let k = c.in-ok-rest.ensures.cases in
+pub union_removing-answer-requires : goal.union_removing-answer-requires
+union_removing-answer-requires g c =
+    let k = c.in_ok-rest.ensures.cases in
     let m = rw k.0 at (c.remove-removed.ensures.cases _ _ c.requires.other.1 c.requires.second.1) in
     record {
       stack = omega arith;
@@ -30,7 +30,7 @@ union-removing-answer-requires g c =
 
 pub returns : goal.returns
 returns g c =
-    let k = c.in-ok-rest.ensures.cases in
+    let k = c.in_ok-rest.ensures.cases in
     let e : c.room.new.self.full ≡ false = cc in
     record {
       space = search rules;
@@ -38,7 +38,7 @@ returns g c =
           let m = rw k.0 at (c.remove-removed.ensures.cases y vs h₄ h₂) in
           let gc = m.grows.cost in
           let n = behind (remove x us) (remove y vs) in
-          rooming _ _ _ c.room-2.result _ _ c.room-2.ensures.cases e (c.union-removing-answer.ensures.cases x us (remove y vs) (m.grows.keeps.term _ _ h₃) (m.grows.keeps.terms _ _ h₁) m.stands)
+          rooming _ _ _ c.room-2.result _ _ c.room-2.ensures.cases e (c.union_removing-answer.ensures.cases x us (remove y vs) (m.grows.keeps.term _ _ h₃) (m.grows.keeps.terms _ _ h₁) m.stands)
           (λ z. lacks_after _ _ _ _ _ _ _ _ (search rules) (omega arith) (omega arith) (lacks_one z))
           (λ i l. record { grows = grows-more (omega arith) (grows_on m.grows l.grows); stands = l.stands });
     }

@@ -4,19 +4,19 @@ use Rattle.workspace.specs.Space.{undone}
 use Rattle.workspace.proofs.Serving.{keeping, lacks_four, lacks_more}
 use Rattle.workspace.proofs.terms.lambda_over.Goals as goal
 
-pub returns-in-err-body : goal.returns-in-err-body
-returns-in-err-body g c =
-    let k = c.in-err-body.ensures.cases in
+pub returns-in_err-body : goal.returns-in_err-body
+returns-in_err-body g c =
+    let k = c.in_err-body.ensures.cases in
     record {
       space = search rules;
       cases = λ w b u h₁ h₂ h₃.
           let short = rw k.0.1 at (c.close-closed.ensures.made w b u h₁ h₂ h₃) in
-          rw c.from-residual.ensures (undone (lacks_more (omega arith) (omega arith) (lacks_four _ short)) k.1);
+          rw c.from_residual.ensures (undone (lacks_more (omega arith) (omega arith) (lacks_four _ short)) k.1);
     }
 
 pub returns : goal.returns
 returns g c =
-    let k = c.in-ok-body.ensures.cases in
+    let k = c.in_ok-body.ensures.cases in
     let e : c.room.new.self.full ≡ false = cc in
     record {
       space = search rules;

@@ -7,5 +7,5 @@ returns g c =
     record {
       space = search rules;
       stays = search rules;
-      cases = λ th b h k. testing _ _ c.holds.result _ _ c.holds.ensures.cases c.requires.clear (c.ok-type-answer.ensures.cases th b h k) (λ x. lacks_one (inl x));
+      cases = λ th b h k. testing _ _ c.holds.result _ _ c.holds.ensures.cases c.requires.clear (c.ok_type-answer.ensures.cases th b h k) (λ x. lacks_one (inl x));
     }

@@ -11,5 +11,5 @@ pub loop-i-preserved : goal.loop-i-preserved
 loop-i-preserved c =
     let i = c.loop-i.i in
     names_more (state_of c.args.self.now) (state_of c.loop-i.self) (state_of c.put.new.self) c.args.w.now i c.loop-i.n
-    c.in-Some.m _ (omega arith) (omega arith) refl (omega (arith, c.type-inv.w (i - 1))) c.loop-i.invariant
+    c.in-Some.m _ (omega arith) (omega arith) refl (omega (arith, c.type_inv.w (i - 1))) c.loop-i.invariant
     c.in-Some.ensures.grows c.in-Some.ensures.stands

@@ -14,7 +14,7 @@ returns-then-n-eq-EMPTY c w h =
 pub returns-in-Some : goal.returns-in-Some
 returns-in-Some c =
     name_says (items (rows_of c.args.self.now.nodes.now)) c.args.n c.in-Some.node c.in-Some.ensures.shows
-    c.as-name.result c.as-name.ensures
+    c.as_name.result c.as_name.ensures
 
 pub returns-in-None : goal.returns-in-None
 returns-in-None c w h =

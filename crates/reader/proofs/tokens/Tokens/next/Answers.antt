@@ -17,8 +17,8 @@ returns-in-Closing c =
     gives_close c.args.self.now c.skip-start.result c.skip-start.ensures c.if-start-text.false
     (sym c.in-Closing.ensures)
 
-pub returns-in-default : goal.returns-in-default
-returns-in-default c =
+pub returns-in_default : goal.returns-in_default
+returns-in_default c =
     gives_word c.args.self.now c.skip-start.result c.skip-start.ensures c.if-start-text.false
-    c.word-end-end.result _ c.word-end-end.ensures refl
-    (λ e. c.in-default.not-Opening (c.kind_of.ensures ∙ e)) (λ e. c.in-default.not-Closing (c.kind_of.ensures ∙ e))
+    c.word_end-end.result _ c.word_end-end.ensures refl
+    (λ e. c.in_default.not-Opening (c.kind_of.ensures ∙ e)) (λ e. c.in_default.not-Closing (c.kind_of.ensures ∙ e))

@@ -3,11 +3,11 @@ use Rattle.store.specs.Views.{ViewFree}
 use Rattle.rebuild.proofs.substituting.SubstitutingLeaf.leaf.Goals as goal
 use Rattle.rebuild.proofs.Leaves.{other, subst_kept, subst_missed, subst_found}
 
-pub returns-in-default : goal.returns-in-default
-returns-in-default g c =
+pub returns-in_default : goal.returns-in_default
+returns-in_default g c =
     record {
       stack = record { top = refl; len = refl; below = refl };
-      made = λ F u o e l. absurd (c.in-default.ensures u e);
+      made = λ F u o e l. absurd (c.in_default.ensures u e);
     }
 
 pub returns-in-Some-find : goal.returns-in-Some-find
@@ -36,12 +36,12 @@ returns-in-None g c =
           w p.stays (p.cases o.entries w.name w.ty o.entries_are w.name_is w.ty_is);
     }
 
-pub returns-in-default-view : goal.returns-in-default-view
-returns-in-default-view g c =
+pub returns-in_default-view : goal.returns-in_default-view
+returns-in_default-view g c =
     let s = g.S.Store.state c.args.store.now in
     record {
       stack = record { top = refl; len = refl; below = refl };
       made = λ F u o e l.
           subst_kept s s c.args.entries.now F o c.args.t c.args.-depth u e
-          (other s.contents u c.in-Some.view (c.in-Some.ensures u e) l c.in-default-view.not-Free);
+          (other s.contents u c.in-Some.view (c.in-Some.ensures u e) l c.in_default-view.not-Free);
     }

@@ -4,7 +4,7 @@ use Rattle.theory.proofs.table.Decls.known.Goals as goal
 pub returns-in-Some : goal.returns-in-Some
 returns-in-Some g c =
     let f = c.in-Some.ensures in
-    let n = c.empty-no-hyps in
+    let n = c.empty-no_hyps in
     record {
       stays = f.stays;
       found = λ th w k e. axiom_found _ _ th w (f.found th w k e) c.if-eq.ensures n.result n.ensures.terms;

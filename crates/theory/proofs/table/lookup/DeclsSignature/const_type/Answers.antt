@@ -8,7 +8,7 @@ returns-in-Some g c =
     record {
       stays = f.stays;
       found = λ th w k e.
-          found_is (const-declared th w (c.if-is-named.ensures w e) (c.if-is-named-2.ensures w e))
+          found_is (const-declared th w (c.if-is_named.ensures w e) (c.if-is_named-2.ensures w e))
           (const-found _ _ th w (f.found th w k e));
     }
 
@@ -18,6 +18,6 @@ returns-in-None g c =
     record {
       stays = f.stays;
       found = λ th w k e.
-          const-declared th w (c.if-is-named.ensures w e) (c.if-is-named-2.ensures w e)
+          const-declared th w (c.if-is_named.ensures w e) (c.if-is_named-2.ensures w e)
           ∙ const_none th w (f.found th w k e);
     }
