@@ -12,7 +12,7 @@ use verdict::Verdict;
 const USAGE: &str = "usage: check FILE";
 
 // Why the program ends with status 1.
-#[derive(Drop)]
+#[derive(Debug, Drop)]
 pub enum Failure {
     Usage,
     Arguments(io::Error),

@@ -15,28 +15,28 @@ returns-in_default g c = record {
   falls = omega arith;
 }
 
-pub returns-in_err-a : goal.returns-in_err-a
-returns-in_err-a g c = record {
+pub returns-in_err-a-in-Word : goal.returns-in_err-a-in-Word
+returns-in_err-a-in-Word g c = record {
   within = c.requires;
   same = unmoved c.args.f.now;
   top_name = refl;
   words_name = refl;
   moves = λ qs x at.
       refused _ c.from_residual.result c.from_residual.ensures.0
-      (inl (word-short at (given_token c.in-Some.ensures c.in-Word.is) c.in_err-a.ensures));
+      (inl (word-short at (given_token c.in-Some.ensures c.in-Word.is) c.in_err-a-in-Word.ensures));
   falls = refused _ c.from_residual.result c.from_residual.ensures.0 tt;
 }
 
-pub returns-in_err-opened : goal.returns-in_err-opened
-returns-in_err-opened g c = record {
+pub returns-in_err-opened-in-Open : goal.returns-in_err-opened-in-Open
+returns-in_err-opened-in-Open g c = record {
   within = c.requires;
   same = unmoved c.args.f.now;
   top_name = refl;
   words_name = refl;
   moves = λ qs x at.
-      refused _ c.from_residual-in_err-opened.result c.from_residual-in_err-opened.ensures.0
-      (inl (bracket_short at (given_token c.in-Some.ensures c.in-Open.is) c.in_err-opened.ensures));
-  falls = refused _ c.from_residual-in_err-opened.result c.from_residual-in_err-opened.ensures.0 tt;
+      refused _ c.from_residual-in_err-opened-in-Open.result c.from_residual-in_err-opened-in-Open.ensures.0
+      (inl (bracket_short at (given_token c.in-Some.ensures c.in-Open.is) c.in_err-opened-in-Open.ensures));
+  falls = refused _ c.from_residual-in_err-opened-in-Open.result c.from_residual-in_err-opened-in-Open.ensures.0 tt;
 }
 
 pub returns-in_default-opened : goal.returns-in_default-opened
@@ -46,7 +46,7 @@ returns-in_default-opened g c = record {
   top_name = refl;
   words_name = refl;
   moves = λ qs x at.
-      bracket_unnamed at (given_token c.in-Some.ensures c.in-Open.is) (rw c.in_default-opened.is at c.in_ok-opened.ensures);
+      bracket_unnamed at (given_token c.in-Some.ensures c.in-Open.is) (rw c.in_default-opened.is at c.in_ok-opened-in-Open.ensures);
   falls = omega arith;
 }
 
@@ -59,7 +59,7 @@ returns-then-push_all g c =
       same = p.same;
       top_name = p.top_name;
       words_name = p.words_name;
-      moves = λ qs x at. word_read at q c.in_ok-a.ensures p.cases;
+      moves = λ qs x at. word_read at q c.in_ok-a-in-Word.ensures p.cases;
       falls = omega (arith, ap length p.cases, ap length q);
     }
 
@@ -79,7 +79,7 @@ pub returns-then-push_all-2 : goal.returns-then-push_all-2
 returns-then-push_all-2 g c =
     let p = c.if-push_all-2.ensures in
     let q = given_token c.in-Some.ensures c.in-Open.is in
-    let b = rw c.in-Some-opened.is at c.in_ok-opened.ensures in
+    let b = rw c.in-Some-opened.is at c.in_ok-opened-in-Open.ensures in
     record {
       within = p.within;
       same = p.same;
@@ -92,7 +92,7 @@ returns-then-push_all-2 g c =
 pub returns-else-push_all-2 : goal.returns-else-push_all-2
 returns-else-push_all-2 g c =
     let p = c.if-push_all-2.ensures in
-    let b = rw c.in-Some-opened.is at c.in_ok-opened.ensures in
+    let b = rw c.in-Some-opened.is at c.in_ok-opened-in-Open.ensures in
     record {
       within = p.within;
       same = p.same;

@@ -19,28 +19,28 @@ returns-in-Close g c = record {
   none = λ qs e. (refl, grows_same);
 }
 
-pub returns-in_err-a : goal.returns-in_err-a
-returns-in_err-a g c = record {
+pub returns-in_err-a-in-Word : goal.returns-in_err-a-in-Word
+returns-in_err-a-in-Word g c = record {
   stack = search rules;
   cases = λ u qs e.
       refused _ c.from_residual.result c.from_residual.ensures.0
-      (inl (word-short u qs e (given_token c.in-Some.ensures c.in-Word.is) c.in_err-a.ensures));
+      (inl (word-short u qs e (given_token c.in-Some.ensures c.in-Word.is) c.in_err-a-in-Word.ensures));
   none = λ qs e. absurd (word-closes (sym (given_token c.in-Some.ensures c.in-Word.is) ∙ e));
 }
 
-pub returns-in_ok-a : goal.returns-in_ok-a
-returns-in_ok-a g c = record {
+pub returns-in_ok-a-in-Word : goal.returns-in_ok-a-in-Word
+returns-in_ok-a-in-Word g c = record {
   stack = search rules;
-  cases = λ u qs e. word_read u qs e (given_token c.in-Some.ensures c.in-Word.is) c.in_ok-a.ensures;
+  cases = λ u qs e. word_read u qs e (given_token c.in-Some.ensures c.in-Word.is) c.in_ok-a-in-Word.ensures;
   none = λ qs e. absurd (word-closes (sym (given_token c.in-Some.ensures c.in-Word.is) ∙ e));
 }
 
-pub returns-in_err-opened : goal.returns-in_err-opened
-returns-in_err-opened g c = record {
+pub returns-in_err-opened-in-Open : goal.returns-in_err-opened-in-Open
+returns-in_err-opened-in-Open g c = record {
   stack = search rules;
   cases = λ u qs e.
-      refused _ c.from_residual-in_err-opened.result c.from_residual-in_err-opened.ensures.0
-      (inl (name-short u qs e (given_token c.in-Some.ensures c.in-Open.is) c.in_err-opened.ensures));
+      refused _ c.from_residual-in_err-opened-in-Open.result c.from_residual-in_err-opened-in-Open.ensures.0
+      (inl (name-short u qs e (given_token c.in-Some.ensures c.in-Open.is) c.in_err-opened-in-Open.ensures));
   none = λ qs e. absurd (open_closes (sym (given_token c.in-Some.ensures c.in-Open.is) ∙ e));
 }
 
@@ -48,28 +48,28 @@ pub returns-in_default-opened : goal.returns-in_default-opened
 returns-in_default-opened g c = record {
   stack = search rules;
   cases = λ u qs e.
-      unnamed u qs e (given_token c.in-Some.ensures c.in-Open.is) (rw c.in_default-opened.is at c.in_ok-opened.ensures);
+      unnamed u qs e (given_token c.in-Some.ensures c.in-Open.is) (rw c.in_default-opened.is at c.in_ok-opened-in-Open.ensures);
   none = λ qs e. absurd (open_closes (sym (given_token c.in-Some.ensures c.in-Open.is) ∙ e));
 }
 
-pub returns-in_err-read : goal.returns-in_err-read
-returns-in_err-read g c =
+pub returns-in_err-read-in-Open : goal.returns-in_err-read-in-Open
+returns-in_err-read-in-Open g c =
     let i = given_token c.in-Some.ensures c.in-Open.is in
-    let b = rw c.in-Some-opened.is at c.in_ok-opened.ensures in
+    let b = rw c.in-Some-opened.is at c.in_ok-opened-in-Open.ensures in
     record {
-      stack = c.in_err-read.ensures.stack;
+      stack = c.in_err-read-in-Open.ensures.stack;
       cases = λ u qs e.
           let (us, k, l) = arguments u qs e i b in
-          refused _ c.from_residual-in_err-read.result c.from_residual-in_err-read.ensures.0
-          (arguments_short u qs e i b (c.in_err-read.ensures.cases us qs l));
+          refused _ c.from_residual-in_err-read-in-Open.result c.from_residual-in_err-read-in-Open.ensures.0
+          (arguments_short u qs e i b (c.in_err-read-in-Open.ensures.cases us qs l));
       none = λ qs e. absurd (open_closes (sym (given_token c.in-Some.ensures c.in-Open.is) ∙ e));
     }
 
 pub returns-in_default-read : goal.returns-in_default-read
 returns-in_default-read g c =
     let i = given_token c.in-Some.ensures c.in-Open.is in
-    let b = rw c.in-Some-opened.is at c.in_ok-opened.ensures in
-    let r = rw c.in_default-read.is at c.in_ok-read.ensures in
+    let b = rw c.in-Some-opened.is at c.in_ok-opened-in-Open.ensures in
+    let r = rw c.in_default-read.is at c.in_ok-read-in-Open.ensures in
     record {
       stack = r.stack;
       cases = λ u qs e.
@@ -81,8 +81,8 @@ returns-in_default-read g c =
 pub returns-in-Some-type_named : goal.returns-in-Some-type_named
 returns-in-Some-type_named g c =
     let i = given_token c.in-Some.ensures c.in-Open.is in
-    let b = rw c.in-Some-opened.is at c.in_ok-opened.ensures in
-    let r = rw c.in-Some-read.is at c.in_ok-read.ensures in
+    let b = rw c.in-Some-opened.is at c.in_ok-opened-in-Open.ensures in
+    let r = rw c.in-Some-read.is at c.in_ok-read-in-Open.ensures in
     record {
       stack = r.stack;
       cases = λ u qs e.
@@ -94,8 +94,8 @@ returns-in-Some-type_named g c =
 pub returns-in-None : goal.returns-in-None
 returns-in-None g c =
     let i = given_token c.in-Some.ensures c.in-Open.is in
-    let b = rw c.in-Some-opened.is at c.in_ok-opened.ensures in
-    let r = rw c.in-Some-read.is at c.in_ok-read.ensures in
+    let b = rw c.in-Some-opened.is at c.in_ok-opened-in-Open.ensures in
+    let r = rw c.in-Some-read.is at c.in_ok-read-in-Open.ensures in
     record {
       stack = r.stack;
       cases = λ u qs e.

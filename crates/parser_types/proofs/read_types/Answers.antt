@@ -9,7 +9,7 @@ loop-turn-init g c = (lent c.new-f.ensures.within, λ us qs e. start c.new-f.ens
 
 pub loop-turn-preserved-in-Next : goal.loop-turn-preserved-in-Next
 loop-turn-preserved-in-Next g c =
-    let p = c.in_ok-turn.ensures in (
+    let p = c.in_ok-turn-in-Next.ensures in (
       moved c.loop-turn.invariant.0 p.within p.same p.top_name p.words_name,
       λ us qs e.
           let w = c.loop-turn.invariant.1 us qs e in
@@ -18,7 +18,7 @@ loop-turn-preserved-in-Next g c =
 
 pub loop-turn-preserved : goal.loop-turn-preserved
 loop-turn-preserved g c =
-    let p = c.in_ok-turn-2.ensures in (
+    let p = c.in_ok-turn-in-Close.ensures in (
       moved c.loop-turn.invariant.0 p.within p.same p.top_name p.words_name,
       λ us qs e.
           let w = c.loop-turn.invariant.1 us qs e in

@@ -82,10 +82,10 @@ returns-in-None g c =
       moves = λ qs x at. variable_short w at c.in-None.ensures;
     }
 
-pub returns-in_err-opened : goal.returns-in_err-opened
-returns-in_err-opened g c =
+pub returns-in_err-opened-in-Open : goal.returns-in_err-opened-in-Open
+returns-in_err-opened-in-Open g c =
     let i = given_token c.in-Some.ensures c.in-Open.is in
-    let r = c.in_err-opened.ensures in
+    let r = c.in_err-opened-in-Open.ensures in
     record {
       within = r.within;
       same = r.same;
@@ -103,7 +103,7 @@ returns-in_err-opened g c =
 pub returns-in-Whole : goal.returns-in-Whole
 returns-in-Whole g c =
     let i = given_token c.in-Some.ensures c.in-Open.is in
-    let r = rw c.in-Whole.is at c.in_ok-opened.ensures in
+    let r = rw c.in-Whole.is at c.in_ok-opened-in-Open.ensures in
     record {
       within = r.within;
       same = r.same;
@@ -119,7 +119,7 @@ returns-in-Whole g c =
 pub returns-in-Nothing : goal.returns-in-Nothing
 returns-in-Nothing g c =
     let i = given_token c.in-Some.ensures c.in-Open.is in
-    let r = rw c.in-Nothing.is at c.in_ok-opened.ensures in
+    let r = rw c.in-Nothing.is at c.in_ok-opened-in-Open.ensures in
     record {
       within = r.within;
       same = r.same;
@@ -135,7 +135,7 @@ returns-in-Nothing g c =
 pub returns-then-push_all : goal.returns-then-push_all
 returns-then-push_all g c =
     let i = given_token c.in-Some.ensures c.in-Open.is in
-    let r = rw c.in-Function.is at c.in_ok-opened.ensures in
+    let r = rw c.in-Function.is at c.in_ok-opened-in-Open.ensures in
     let p = c.if-push_all.ensures in
     record {
       within = p.within;
@@ -152,7 +152,7 @@ returns-then-push_all g c =
 pub returns-else-push_all : goal.returns-else-push_all
 returns-else-push_all g c =
     let i = given_token c.in-Some.ensures c.in-Open.is in
-    let r = rw c.in-Function.is at c.in_ok-opened.ensures in
+    let r = rw c.in-Function.is at c.in_ok-opened-in-Open.ensures in
     let p = c.if-push_all.ensures in
     record {
       within = p.within;
@@ -169,7 +169,7 @@ returns-else-push_all g c =
 pub returns-then-not-push : goal.returns-then-not-push
 returns-then-not-push g c =
     let i = given_token c.in-Some.ensures c.in-Open.is in
-    let r = rw c.in-Under.is at c.in_ok-opened.ensures in
+    let r = rw c.in-Under.is at c.in_ok-opened-in-Open.ensures in
     let n = c.if-not-push.ensures in
     record {
       within = r.within;
@@ -186,7 +186,7 @@ returns-then-not-push g c =
 pub returns-then-push_all-2 : goal.returns-then-push_all-2
 returns-then-push_all-2 g c =
     let i = given_token c.in-Some.ensures c.in-Open.is in
-    let r = rw c.in-Under.is at c.in_ok-opened.ensures in
+    let r = rw c.in-Under.is at c.in_ok-opened-in-Open.ensures in
     let n = c.if-not-push.ensures in
     let p = c.if-push_all-2.ensures in
     record {
@@ -205,7 +205,7 @@ returns-then-push_all-2 g c =
 pub returns-else-push_all-2 : goal.returns-else-push_all-2
 returns-else-push_all-2 g c =
     let i = given_token c.in-Some.ensures c.in-Open.is in
-    let r = rw c.in-Under.is at c.in_ok-opened.ensures in
+    let r = rw c.in-Under.is at c.in_ok-opened-in-Open.ensures in
     let n = c.if-not-push.ensures in
     let p = c.if-push_all-2.ensures in
     record {

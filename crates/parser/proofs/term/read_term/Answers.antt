@@ -13,7 +13,7 @@ loop-turn-init g c =
 
 pub loop-turn-preserved-in-Down : goal.loop-turn-preserved-in-Down
 loop-turn-preserved-in-Down g c =
-    let p = c.in_ok-turn.ensures in (
+    let p = c.in_ok-turn-in-Down.ensures in (
       moved c.loop-turn.invariant.0 p.within p.same p.top_name p.words_name,
       moved c.loop-turn.invariant.1 p.within_names p.same_names p.top_name_names p.words_name_names,
       λ n u qs e d.
@@ -26,7 +26,7 @@ loop-turn-preserved-in-Down g c =
 
 pub loop-turn-preserved : goal.loop-turn-preserved
 loop-turn-preserved g c =
-    let p = c.in_ok-turn-2.ensures in (
+    let p = c.in_ok-turn-in-Up.ensures in (
       moved c.loop-turn.invariant.0 p.within p.same p.top_name p.words_name,
       moved c.loop-turn.invariant.1 p.within_names p.same_names p.top_name_names p.words_name_names,
       λ n u qs e d.
@@ -42,10 +42,10 @@ loop-turn-smaller-in-Down g c =
     elim c.requires.ahead [
       | inl (u, qs, e) ↦
           (let w = c.loop-turn.invariant.2 (depth u) u qs e (omega arith) in
-          rw c.in-Down.is (c.in_ok-turn.ensures.moves qs w.point (rw c.in-Down.is at w.at)).falls)
+          rw c.in-Down.is (c.in_ok-turn-in-Down.ensures.moves qs w.point (rw c.in-Down.is at w.at)).falls)
       | inr (qs, e) ↦
           (let w = c.loop-turn.invariant.3 qs e in
-          rw c.in-Down.is (c.in_ok-turn.ensures.moves qs w.point (rw c.in-Down.is at w.at)).falls)
+          rw c.in-Down.is (c.in_ok-turn-in-Down.ensures.moves qs w.point (rw c.in-Down.is at w.at)).falls)
     ]
 
 pub loop-turn-smaller : goal.loop-turn-smaller
@@ -53,15 +53,15 @@ loop-turn-smaller g c =
     elim c.requires.ahead [
       | inl (u, qs, e) ↦
           (let w = c.loop-turn.invariant.2 (depth u) u qs e (omega arith) in
-          rw c.in-Up.is (c.in_ok-turn-2.ensures.moves qs w.point (rw c.in-Up.is at w.at)).falls)
+          rw c.in-Up.is (c.in_ok-turn-in-Up.ensures.moves qs w.point (rw c.in-Up.is at w.at)).falls)
       | inr (qs, e) ↦
           (let w = c.loop-turn.invariant.3 qs e in
-          rw c.in-Up.is (c.in_ok-turn-2.ensures.moves qs w.point (rw c.in-Up.is at w.at)).falls)
+          rw c.in-Up.is (c.in_ok-turn-in-Up.ensures.moves qs w.point (rw c.in-Up.is at w.at)).falls)
     ]
 
-pub returns-in_err-turn : goal.returns-in_err-turn
-returns-in_err-turn g c =
-    let p = c.in_err-turn.ensures in
+pub returns-in_err-turn-in-Down : goal.returns-in_err-turn-in-Down
+returns-in_err-turn-in-Down g c =
+    let p = c.in_err-turn-in-Down.ensures in
     record {
       stack = search rules;
       scope = search rules;
@@ -75,15 +75,15 @@ returns-in_err-turn g c =
           absurd (lost_stuck w (p.moves qs w.point (rw c.in-Down.is at w.at)));
     }
 
-pub returns-in_err-turn-2 : goal.returns-in_err-turn-2
-returns-in_err-turn-2 g c =
-    let p = c.in_err-turn-2.ensures in
+pub returns-in_err-turn-in-Up : goal.returns-in_err-turn-in-Up
+returns-in_err-turn-in-Up g c =
+    let p = c.in_err-turn-in-Up.ensures in
     record {
       stack = search rules;
       scope = search rules;
       cases = λ n u qs e d.
           let w = c.loop-turn.invariant.2 n u qs e d in
-          refused _ c.from_residual-in_err-turn-2.result c.from_residual-in_err-turn-2.ensures.0
+          refused _ c.from_residual-in_err-turn-in-Up.result c.from_residual-in_err-turn-in-Up.ensures.0
           (rw (lent_room c.loop-turn.invariant.0 c.new-f.ensures.base c.new-f.ensures.words, lent_room c.loop-turn.invariant.1 c.new-names.ensures.base c.new-names.ensures.words)
           at (stuck w (p.moves qs w.point (rw c.in-Up.is at w.at))));
       none = λ qs e.

@@ -33,7 +33,7 @@ returns-in-None g c =
           close_full (st c.args.store.now) (st c.same_variable.new.store) (st c.bound.new.self) c.args.self.now.x
           c.args.self.now.a F o c.args.t c.args.depth u e c.in-Free.y c.in-Free.b
           (rw c.in-Free.is at (c.in-Some.ensures u e)) true p.stays p.cases refl c.in-None.ensures
-          (length c.args.-words.now - c.args.-top.now) (nodes_tm u);
+          (length c.args._words.now - c.args._top.now) (nodes_tm u);
     }
 
 pub returns-else-same_variable : goal.returns-else-same_variable

@@ -41,7 +41,7 @@ returns-in-Some-free g c =
       made = λ F u o e l.
           let w : ViewFree s.contents c.in-Free.x c.in-Free.a u = rw c.in-Free.is at (c.in-Some.ensures u e) in
           let v = st c.free.new.self in
-          inst_made o c.args.-depth c.in-Some-free.n u
+          inst_made o c.args._depth c.in-Some-free.n u
           (inst_free o.entries s t v (length c.args.words.now - c.args.top.now) c.in-Free.x c.in-Free.a c.in-Ok.b c.in-Some-free.n u w
           (c.in-Ok.ensures.made o.entries w.ty o.entries_are w.ty_is) c.in-Some-free.ensures);
     }
@@ -56,7 +56,7 @@ returns-in-None g c =
       made = λ F u o e l.
           let w : ViewFree s.contents c.in-Free.x c.in-Free.a u = rw c.in-Free.is at (c.in-Some.ensures u e) in
           let v = st c.free.new.self in
-          inst_refused s o c.args.-depth u (length c.args.words.now - c.args.top.now) (nodes_tm u)
+          inst_refused s o c.args._depth u (length c.args.words.now - c.args.top.now) (nodes_tm u)
           (inst_free_full o.entries s t v (length c.args.words.now - c.args.top.now) c.in-Free.x c.in-Free.a c.in-Ok.b u w
           (c.in-Ok.ensures.made o.entries w.ty o.entries_are w.ty_is) c.in-None.ensures);
     }
@@ -70,7 +70,7 @@ returns-in-Err g c =
       stack = c.subst_type.ensures.stack;
       made = λ F u o e l.
           let w : ViewFree s.contents c.in-Free.x c.in-Free.a u = rw c.in-Free.is at (c.in-Some.ensures u e) in
-          inst_refused s o c.args.-depth u (length c.args.words.now - c.args.top.now) (nodes_tm u)
+          inst_refused s o c.args._depth u (length c.args.words.now - c.args.top.now) (nodes_tm u)
           (inst_free_stuck o.entries s t t (length c.args.words.now - c.args.top.now) c.in-Free.x c.in-Free.a u w
           (c.in-Err.ensures.made o.entries w.ty o.entries_are w.ty_is));
     }
@@ -85,9 +85,9 @@ returns-in-Some-constant g c =
       made = λ F u o e l.
           let w : ViewConstant s.contents c.in-Constant.x c.in-Constant.list u = rw c.in-Constant.is at (c.in-Some.ensures u e) in
           let v = st c.constant.new.self in
-          inst_made o c.args.-depth c.in-Some-constant.n u
+          inst_made o c.args._depth c.in-Some-constant.n u
           (inst_const o.entries s t v (length c.args.words.now - c.args.top.now) c.in-Constant.x c.in-Constant.list c.in-Ok-subst_types.types c.in-Some-constant.n u w
-          (c.in-Ok-subst_types.ensures.made o.entries w.args o.entries_are w.args-are) c.in-Some-constant.ensures);
+          (c.in-Ok-subst_types.ensures.made o.entries w.args o.entries_are w.args_are) c.in-Some-constant.ensures);
     }
 
 pub returns-in-None-constant : goal.returns-in-None-constant
@@ -100,9 +100,9 @@ returns-in-None-constant g c =
       made = λ F u o e l.
           let w : ViewConstant s.contents c.in-Constant.x c.in-Constant.list u = rw c.in-Constant.is at (c.in-Some.ensures u e) in
           let v = st c.constant.new.self in
-          inst_refused s o c.args.-depth u (length c.args.words.now - c.args.top.now) (nodes_tm u)
+          inst_refused s o c.args._depth u (length c.args.words.now - c.args.top.now) (nodes_tm u)
           (inst_const_full o.entries s t v (length c.args.words.now - c.args.top.now) c.in-Constant.x c.in-Constant.list c.in-Ok-subst_types.types u w
-          (c.in-Ok-subst_types.ensures.made o.entries w.args o.entries_are w.args-are) c.in-None-constant.ensures);
+          (c.in-Ok-subst_types.ensures.made o.entries w.args o.entries_are w.args_are) c.in-None-constant.ensures);
     }
 
 pub returns-in-Err-subst_types : goal.returns-in-Err-subst_types
@@ -114,9 +114,9 @@ returns-in-Err-subst_types g c =
       stack = c.subst_types.ensures.stack;
       made = λ F u o e l.
           let w : ViewConstant s.contents c.in-Constant.x c.in-Constant.list u = rw c.in-Constant.is at (c.in-Some.ensures u e) in
-          inst_refused s o c.args.-depth u (length c.args.words.now - c.args.top.now) (nodes_tm u)
+          inst_refused s o c.args._depth u (length c.args.words.now - c.args.top.now) (nodes_tm u)
           (inst_const_stuck o.entries s t t (length c.args.words.now - c.args.top.now) c.in-Constant.x c.in-Constant.list u w
-          (c.in-Err-subst_types.ensures.made o.entries w.args o.entries_are w.args-are));
+          (c.in-Err-subst_types.ensures.made o.entries w.args o.entries_are w.args_are));
     }
 
 pub returns-in_default-view : goal.returns-in_default-view
@@ -126,5 +126,5 @@ returns-in_default-view g c =
       stack = record { top = refl; len = refl; below = refl };
       made = λ F u o e l.
           let k = bound s.contents u c.in-Some.view (c.in-Some.ensures u e) l c.in_default-view.not-Free c.in_default-view.not-Constant in
-          inst_made o c.args.-depth c.args.t u (inst_bound o.entries s c.args.t u k.0 e k.1);
+          inst_made o c.args._depth c.args.t u (inst_bound o.entries s c.args.t u k.0 e k.1);
     }

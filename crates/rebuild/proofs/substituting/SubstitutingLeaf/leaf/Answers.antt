@@ -19,7 +19,7 @@ returns-in-Some-find g c =
       stack = record { top = refl; len = refl; below = refl };
       made = λ F u o e l.
           let w : ViewFree s.contents c.in-Free.x c.in-Free.a u = rw c.in-Free.is at (c.in-Some.ensures u e) in
-          subst_found s (st c.find.new.store) c.args.entries.now F o c.args.t c.args.-depth u e c.in-Free.x c.in-Free.a
+          subst_found s (st c.find.new.store) c.args.entries.now F o c.args.t c.args._depth u e c.in-Free.x c.in-Free.a
           w p.stays c.in-Some-find.n (p.cases o.entries w.name w.ty o.entries_are w.name_is w.ty_is);
     }
 
@@ -32,7 +32,7 @@ returns-in-None g c =
       stack = record { top = refl; len = refl; below = refl };
       made = λ F u o e l.
           let w : ViewFree s.contents c.in-Free.x c.in-Free.a u = rw c.in-Free.is at (c.in-Some.ensures u e) in
-          subst_missed s (st c.find.new.store) c.args.entries.now F o c.args.t c.args.-depth u e c.in-Free.x c.in-Free.a
+          subst_missed s (st c.find.new.store) c.args.entries.now F o c.args.t c.args._depth u e c.in-Free.x c.in-Free.a
           w p.stays (p.cases o.entries w.name w.ty o.entries_are w.name_is w.ty_is);
     }
 
@@ -42,6 +42,6 @@ returns-in_default-view g c =
     record {
       stack = record { top = refl; len = refl; below = refl };
       made = λ F u o e l.
-          subst_kept s s c.args.entries.now F o c.args.t c.args.-depth u e
+          subst_kept s s c.args.entries.now F o c.args.t c.args._depth u e
           (other s.contents u c.in-Some.view (c.in-Some.ensures u e) l c.in_default-view.not-Free);
     }
