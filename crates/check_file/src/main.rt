@@ -5,6 +5,7 @@ mod task;
 mod verdict;
 
 use reader::count;
+use std::process::ExitCode;
 use std::{fs, io};
 use task::Task;
 use verdict::Verdict;
@@ -12,7 +13,7 @@ use verdict::Verdict;
 const USAGE: &str = "usage: check FILE";
 
 // Why the program ends with status 1.
-#[derive(Debug, Drop)]
+#[derive(Drop)]
 pub enum Failure {
     Usage,
     Arguments(io::Error),
@@ -60,10 +61,12 @@ fn run(rt: &HostRuntime) -> Result<(), Failure> {
     }
 }
 
-fn main(rt: HostRuntime) -> Result<(), Failure> {
-    let outcome = run(&rt);
-    if let Err(failure) = &outcome {
-        let _ = complain(&rt, failure);
+fn main(rt: HostRuntime) -> ExitCode {
+    match run(&rt) {
+        Ok(()) => ExitCode::SUCCESS,
+        Err(failure) => {
+            let _ = complain(&rt, &failure);
+            ExitCode::FAILURE
+        }
     }
-    outcome
 }
