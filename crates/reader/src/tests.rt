@@ -71,9 +71,9 @@ fn spaced(heap: Global, text: &[u8]) -> Result<Vec<u8>, AllocError> {
 #[test]
 fn gives_tokens_in_order(rt: HostRuntime) -> Result<(), Fail> {
     let out = spaced(rt.alloc(), b"a;b(\n(c)")?;
-    assert_eq!(rt; out.as_slice(), b"a ( c ) ");
+    assert_eq!(rt; out.as_slice(), b"a ( c ) ".as_slice());
     let out = spaced(rt.alloc(), b"(a\r);\r(\n\tb")?;
-    assert_eq!(rt; out.as_slice(), b"( a ) b ");
+    assert_eq!(rt; out.as_slice(), b"( a ) b ".as_slice());
     Ok(())
 }
 
