@@ -1,14 +1,27 @@
 -- Sequents that were found: what stands stays while the store grows, and what was short for a part is short for the whole.
-use Rattle.std.proofs.Common.{◌≡◌, ℕ, ◌+◌, ◌*◌, ◌≤◌}
+use Rattle.std.proofs.Common.{◌≡◌, ℕ, ◌+◌, ◌*◌, ◌≤◌, Some, None, Option, arith}
 use mathlib.Core.Option.{Option as Maybe, some}
 use Rattle.hol.specs.Syntax.{Seq}
-use Rattle.store.specs.State.{Contents, Keeps}
+use Rattle.hol.specs.Kernel.{Sides}
+use Rattle.store.specs.State.{Contents, State, Keeps, Grows}
+use Rattle.store.proofs.Growth.{grows_on, grows-more}
+use Rattle.walk.specs.Parts.{IsEquation}
+use Rattle.walk.specs.declared.parts.Equation.{Equation}
+use Rattle.workspace.specs.Space.{Makes}
 use Rattle.kernel.specs.Sequents.{IsSeq, nodes_seq, price}
 use Rattle.kernel.specs.declared.sequent.Sequent.{Sequent}
 
 pub seq-kept : {c d : Contents} {p : Seq} {q : Sequent} → Keeps c d → IsSeq c p q → IsSeq d p q
 seq-kept k h = record { hyps = k.terms _ _ h.hyps; concl = k.term _ _ h.concl }
 
+pub equation_kept : {c d : Contents} {p : Sides} {q : Equation} → Keeps c d → IsEquation c p q → IsEquation d p q
+equation_kept k h = record { ty = k.typ _ _ h.ty; left = k.term _ _ h.left; right = k.term _ _ h.right }
+
 -- what is at most the price of the sequent that the definition gives
 pub priced : {o : Maybe Seq} {w : Seq} (b n : ℕ) → o ≡ some w → n ≤ b + 2 * nodes_seq w → n ≤ b + price o
 priced b n e h = rw e h
+
+-- a number that was made after n nodes were spent
+pub makes_on : {n k : ℕ} {s t : State} (m : ℕ) (u : State) (P : Contents → ℕ → Type 0) (r : Option ℕ) → Grows n s t → Makes m t u P r → n + m ≤ k → Makes k s u P r
+makes_on m u P (Some x) h b l = record { grows = grows-more l (grows_on h b.grows); stands = b.stands }
+makes_on m u P None h b l = omega (arith, h.cost, b)
