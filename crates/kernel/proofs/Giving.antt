@@ -1,8 +1,10 @@
 -- Sequents that were found: what stands stays while the store grows, and what was short for a part is short for the whole.
-use Rattle.std.proofs.Common.{◌≡◌, ℕ, ◌+◌, ◌*◌, ◌≤◌, Bool, true, ◌&&◌, Some, None, Option, arith}
+use Rattle.std.proofs.Common.{◌≡◌, ℕ, ◌+◌, ◌*◌, ◌≤◌, max, Bool, true, ◌&&◌, Some, None, Option, arith}
 use mathlib.Core.Option.{Option as Maybe, some}
-use Rattle.hol.specs.Syntax.{Seq}
-use Rattle.hol.specs.Kernel.{Sides}
+use Rattle.hol.specs.Syntax.{Tm, Seq}
+use Rattle.hol.specs.Kernel.{Sides, sides}
+use Rattle.hol.proofs.Shapes.{sides_are}
+use Rattle.store.specs.Measures.{nodes_tm}
 use Rattle.store.specs.State.{Contents, State, Keeps, Grows}
 use Rattle.store.specs.Builds.{Made}
 use Rattle.store.proofs.Growth.{grows_on, grows-more}
@@ -23,6 +25,10 @@ equation_kept k h = record { ty = k.typ _ _ h.ty; left = k.term _ _ h.left; righ
 -- what is at most the price of the sequent that the definition gives
 pub priced : {o : Maybe Seq} {w : Seq} (b n : ℕ) → o ≡ some w → n ≤ b + 2 * nodes_seq w → n ≤ b + price o
 priced b n e h = rw e h
+
+-- the sides of an equation have at most as many nodes as it has
+pub sides_nodes : (t : Tm) (l : Sides) → sides t ≡ some l → max (nodes_tm l.left) (nodes_tm l.right) ≤ nodes_tm t
+sides_nodes t l e = rw (sides_are t e) (omega arith)
 
 -- a number that was made after n nodes were spent
 pub makes_on : {n k : ℕ} {s t : State} (m : ℕ) (u : State) (P : Contents → ℕ → Type 0) (r : Option ℕ) → Grows n s t → Makes m t u P r → n + m ≤ k → Makes k s u P r
