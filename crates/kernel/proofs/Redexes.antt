@@ -1,5 +1,5 @@
 -- A λ applied to an argument: what the rule beta finds of it, and how large its body is.
-use Rattle.std.proofs.Common.{◌≡◌, ◌+◌, ◌≤◌, [], sym, refl, arith}
+use Rattle.std.proofs.Common.{◌≡◌, ◌≤◌, [], sym, refl, arith}
 use mathlib.Core.Option.{Option as Maybe, some, none}
 use Rattle.hol.specs.Base.{bind}
 use Rattle.hol.specs.Syntax.{Ty, Tm, equal, open_at}

@@ -1,4 +1,4 @@
-use Rattle.std.proofs.Common.{◌≡◌, ◌+◌, ◌≤◌, [], ◌∷◌, ◌∙◌, le_refl, arith, rules}
+use Rattle.std.proofs.Common.{[], ◌∙◌, le_refl, arith, rules}
 use Rattle.store.proofs.Growth.{grows_on, grows-more}
 use Rattle.hol.specs.Kernel.{s_beta}
 use Rattle.hol.proofs.Steps.{steps_sound}

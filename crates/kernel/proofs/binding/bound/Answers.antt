@@ -1,7 +1,7 @@
-use Rattle.std.proofs.Common.{◌≡◌, ◌+◌, ◌≤◌, ◌∙◌, arith, rules}
+use Rattle.std.proofs.Common.{◌∙◌, arith, rules}
 use Rattle.hol.specs.Syntax.{fun, abstract}
 use Rattle.store.proofs.Growth.{grows_on}
-use Rattle.workspace.specs.Space.{space, undone}
+use Rattle.workspace.specs.Space.{undone}
 use Rattle.workspace.specs.Grounds.{grounded_kept}
 use Rattle.workspace.proofs.Serving.{lacks_more, lacks_after, done_of, undone_of}
 use Rattle.kernel.proofs.Giving.{does_on}

@@ -1,4 +1,4 @@
-use Rattle.std.proofs.Common.{◌≡◌, ◌+◌, ◌≤◌, [], ◌∷◌, le_refl, arith, rules}
+use Rattle.std.proofs.Common.{[], ◌∷◌, le_refl, arith, rules}
 use Rattle.store.proofs.Growth.{grows_on, grows-more}
 use Rattle.hol.specs.Theory.{ok_ty}
 use Rattle.hol.specs.Kernel.{sides, s_lam}

@@ -1,4 +1,4 @@
-use Rattle.std.proofs.Common.{◌≡◌, ◌≤◌, arith, rules}
+use Rattle.std.proofs.Common.{arith, rules}
 use Rattle.store.proofs.Growth.{stays_on}
 use Rattle.workspace.specs.Space.{failed, untested}
 use Rattle.workspace.proofs.Serving.{lacks_more, lacks_after, passed_of}

@@ -1,4 +1,3 @@
-use Rattle.std.proofs.Common.{◌≡◌}
 use Rattle.hol.specs.Kernel.{app_of, lam_of}
 use Rattle.kernel.proofs.Shapes.{there, absent}
 use Rattle.kernel.proofs.binding.redex.Goals as goal

@@ -1,4 +1,4 @@
-use Rattle.std.proofs.Common.{◌≡◌, arith}
+use Rattle.std.proofs.Common.{arith}
 use Rattle.store.proofs.Growth.{grows_on}
 use Rattle.workspace.specs.Grounds.{grounded_kept}
 use Rattle.kernel.proofs.Giving.{makes_on}

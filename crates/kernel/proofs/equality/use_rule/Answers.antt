@@ -1,4 +1,4 @@
-use Rattle.std.proofs.Common.{◌≡◌, ◌+◌, ◌≤◌, [], ◌∷◌, sym, refl, ◌∙◌, inr, le_refl, arith, rules}
+use Rattle.std.proofs.Common.{[], ◌∷◌, sym, refl, ◌∙◌, inr, le_refl, arith, rules}
 use Rattle.store.proofs.Growth.{grows_on, grows-more}
 use Rattle.walk.proofs.Compared.{types_compared}
 use Rattle.hol.specs.Syntax.{arrow}
