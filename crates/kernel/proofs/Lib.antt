@@ -4,3 +4,5 @@ pub mod Shapes
 pub mod Fits
 -- sequents that were found, and what was short
 pub mod Giving
+-- a λ applied to an argument
+pub mod Redexes

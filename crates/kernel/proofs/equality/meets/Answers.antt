@@ -1,4 +1,4 @@
-use Rattle.std.proofs.Common.{◌≡◌, sym, ◌∙◌, rules}
+use Rattle.std.proofs.Common.{sym, ◌∙◌}
 use Rattle.store.proofs.Growth.{stays_on}
 use Rattle.walk.proofs.Compared.{types_compared}
 use Rattle.hyps.proofs.Seeking.{same_decides}

@@ -1,4 +1,4 @@
-use Rattle.std.proofs.Common.{◌≡◌, ◌+◌, ◌≤◌, [], ◌∷◌, sym, refl, ◌∙◌, le_refl, arith, rules}
+use Rattle.std.proofs.Common.{[], refl, le_refl, arith, rules}
 use Rattle.store.proofs.Growth.{grows_on, grows-more}
 use Rattle.hol.proofs.Steps.{steps_sound}
 use Rattle.workspace.specs.Space.{nothing, unserved, served}

@@ -1,10 +1,10 @@
-use Rattle.std.proofs.Common.{◌≡◌, ◌+◌, ◌≤◌, [], ◌∷◌, sym, refl, ◌∙◌, le_refl, arith, rules}
+use Rattle.std.proofs.Common.{[], ◌∷◌, sym, refl, ◌∙◌, le_refl, arith, rules}
 use Rattle.store.proofs.Growth.{grows_on, grows-more}
 use Rattle.hol.specs.Kernel.{sides, s_trans}
 use Rattle.hol.proofs.Steps.{steps_sound}
 use Rattle.workspace.specs.Space.{nothing, unserved, served}
 use Rattle.workspace.specs.Grounds.{grounded_kept}
-use Rattle.workspace.proofs.Serving.{done_of, undone_of, lacks_more, lacks_after}
+use Rattle.workspace.proofs.Serving.{done_of, undone_of, lacks_after}
 use Rattle.kernel.proofs.Shapes.{there, absent}
 use Rattle.kernel.proofs.Fits.{trans_fits}
 use Rattle.kernel.proofs.Giving.{priced}
