@@ -10,15 +10,15 @@ use Rattle.hol.proofs.Equality.{in_terms, terms_in}
 use Rattle.hol.proofs.Types.{seq_has, all_props}
 
 -- UNION has what the two lists have
-pub in_union-right : {x : Tm} (hs : List Tm) {gs : List Tm} → In x gs → In x (union hs gs)
-in_union-right [] i = i
-in_union-right (h ∷ hs) {gs} i =
-    elim (decided (in_hyps h gs)) [ inl e ↦ rw e (in_union-right hs i) | inr e ↦ rw e (there (in_union-right hs i)) ]
+pub in_union_right : {x : Tm} (hs : List Tm) {gs : List Tm} → In x gs → In x (union hs gs)
+in_union_right [] i = i
+in_union_right (h ∷ hs) {gs} i =
+    elim (decided (in_hyps h gs)) [ inl e ↦ rw e (in_union_right hs i) | inr e ↦ rw e (there (in_union_right hs i)) ]
 
 pub in_union : {x : Tm} (hs gs : List Tm) → In x (hs ++ gs) → In x (union hs gs)
 in_union [] gs i = i
 in_union (h ∷ hs) gs here =
-    elim (decided (in_hyps h gs)) [ inl e ↦ rw e (in_union-right hs (in_terms h gs e)) | inr e ↦ rw e here ]
+    elim (decided (in_hyps h gs)) [ inl e ↦ rw e (in_union_right hs (in_terms h gs e)) | inr e ↦ rw e here ]
 in_union (h ∷ hs) gs (there i) =
     elim (decided (in_hyps h gs)) [ inl e ↦ rw e (in_union hs gs i) | inr e ↦ rw e (there (in_union hs gs i)) ]
 

@@ -97,8 +97,8 @@ step-word : brief (judge (codes "(thm a refl)")) ≡ refuses 1 1
 step-word = refl
 
 -- a theorem has a word for its name, or its steps are not looked at; it has a step; its name is looked at behind its steps
-thm_list-name : brief (judge (codes "(thm (a) (nonsense))")) ≡ refuses 1 0
-thm_list-name = refl
+thm_list_name : brief (judge (codes "(thm (a) (nonsense))")) ≡ refuses 1 0
+thm_list_name = refl
 
 thm_no_step : brief (judge (codes "(thm a)")) ≡ refuses 1 0
 thm_no_step = refl

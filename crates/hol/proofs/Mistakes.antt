@@ -28,8 +28,8 @@ abbrev r : Tm
 r = fvar (codes "r") bool
 
 -- Two variables of one name and different types are two: λ over x of type 'a leaves x of type 'b free.
-two_of-one_name : named_in (judge (codes "(thm a (assume ($ ($ (! = 'b) (: x 'b)) (: x 'b))) (lam x 'a 0))")) (codes "a") ≡ some (seq (equal 'b (x 'b) (x 'b) ∷ []) (equal (fun 'a 'b) (lam 'a (x 'b)) (lam 'a (x 'b))))
-two_of-one_name = refl
+two_of_one_name : named_in (judge (codes "(thm a (assume ($ ($ (! = 'b) (: x 'b)) (: x 'b))) (lam x 'a 0))")) (codes "a") ≡ some (seq (equal 'b (x 'b) (x 'b) ∷ []) (equal (fun 'a 'b) (lam 'a (x 'b)) (lam 'a (x 'b))))
+two_of_one_name = refl
 
 -- inst of x of type 'a leaves x of type 'b alone.
 inst_by_type : named_in (judge (codes "(thm a (refl ($ (: f (-> 'b 'a)) (: x 'b))) (inst 0 (x 'a (: y 'a))))")) (codes "a") ≡ some (seq [] (equal 'a (app (fvar (codes "f") (fun 'b 'a)) (x 'b)) (app (fvar (codes "f") (fun 'b 'a)) (x 'b))))

@@ -23,11 +23,11 @@ module _ (vs ws : List Word) (more : (x : Word) → among x vs ≡ true → amon
   mutual
     pub covers_more : (a : Ty) → Covers vs a → Covers ws a
     covers_more (tyvar a) h = more a h
-    covers_more (tyapp c as₁) h = covers_all-more as₁ h
+    covers_more (tyapp c as₁) h = covers_all_more as₁ h
 
-    pub covers_all-more : (as₁ : Tys) → CoversAll vs as₁ → CoversAll ws as₁
-    covers_all-more tnil h = tt
-    covers_all-more (tcons a as₁) h = (covers_more a h.0, covers_all-more as₁ h.1)
+    pub covers_all_more : (as₁ : Tys) → CoversAll vs as₁ → CoversAll ws as₁
+    covers_all_more tnil h = tt
+    covers_all_more (tcons a as₁) h = (covers_more a h.0, covers_all_more as₁ h.1)
 
 -- inserting a name keeps the names and adds it
 pub insert-keeps : (w : Word) (ws : List Word) (x : Word) → among x ws ≡ true → among x (insert w ws) ≡ true

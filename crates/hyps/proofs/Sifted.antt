@@ -23,8 +23,8 @@ sifted_both t (u ∷ us) gs = elim (decided (same_tm t u)) [
 ]
 
 -- a list has what it has once each is there once
-in_dedup-same : (t : Tm) (us : List Tm) → in_hyps t (dedup us) ≡ in_hyps t us
-in_dedup-same t us = elim (decided (in_hyps t us)) [
+in_dedup_same : (t : Tm) (us : List Tm) → in_hyps t (dedup us) ≡ in_hyps t us
+in_dedup_same t us = elim (decided (in_hyps t us)) [
   | inl e ↦ terms_in (in_dedup us (in_terms t us e)) ∙ sym e
   | inr e ↦ elim (decided (in_hyps t (dedup us))) [
     | inl d ↦ clash (terms_in (of_dedup us (in_terms t (dedup us) d))) e
@@ -34,7 +34,7 @@ in_dedup-same t us = elim (decided (in_hyps t us)) [
 
 pub sifted-dedup : (f : Tm → Tm) (us : List Tm) → sifted (λ u vs. in_hyps u vs) f us [] ≡ dedup (map f us)
 sifted-dedup f [] = refl
-sifted-dedup f (u ∷ us) = rw (sifted-dedup f us, in_dedup-same (f u) (map f us))
+sifted-dedup f (u ∷ us) = rw (sifted-dedup f us, in_dedup_same (f u) (map f us))
 
 -- the same, with each term as it is
 pub sifted-once : (us : List Tm) → sifted (λ u vs. in_hyps u vs) (λ u. u) us [] ≡ dedup us

@@ -31,10 +31,10 @@ plain_more s c =
     (either P (eqb c 40) _ _ (omega arith, begun_more s)
     (either P (eqb c 41) _ _ (either P (eqb s.depth 0) _ _ tt (omega arith, omega arith)) (lettered-more s.mode s))))
 
-after_in-more : (m : Mode) (s : Reader) (c : ℕ) → OneMore s (after_in m s c)
-after_in-more Gap s c = plain_more s c
-after_in-more InWord s c = plain_more s c
-after_in-more Comment s c = either (OneMore s) (eqb c 10) _ _ (omega arith, omega arith) (omega arith, omega arith)
+after_in_more : (m : Mode) (s : Reader) (c : ℕ) → OneMore s (after_in m s c)
+after_in_more Gap s c = plain_more s c
+after_in_more InWord s c = plain_more s c
+after_in_more Comment s c = either (OneMore s) (eqb c 10) _ _ (omega arith, omega arith) (omega arith, omega arith)
 
 pub after_more : (s r : Reader) (c : ℕ) → after s c ≡ some r → (r.depth ≤ s.depth + 1) × (r.commands ≤ s.commands + 1)
-after_more s r c e = subst (OneMore s) e (after_in-more s.mode s c)
+after_more s r c e = subst (OneMore s) e (after_in_more s.mode s c)

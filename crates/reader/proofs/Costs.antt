@@ -7,7 +7,7 @@ use Rattle.reader.specs.Flat.{flat, flats, cost, costs, depth, depths}
 use Rattle.reader.specs.Next.{kind_of}
 use Rattle.reader.specs.declared.tokens.Kind.{Kind}
 use Rattle.reader.specs.declared.tokens.Kind.TheVariants.{Blank, Comment, Opening, Closing, Letter}
-use Rattle.reader.proofs.Lexing.{afresh_by, is_letter, afresh-kind, in_words-kind}
+use Rattle.reader.proofs.Lexing.{afresh_by, is_letter, afresh-kind, in_words_kind}
 use Rattle.reader.proofs.Trees.{flats_from_sexps}
 
 -- what the tokens come to, with f for each
@@ -66,7 +66,7 @@ word-cost Letter w c = omega (arith, length-append w (c ∷ []))
 
 turn-cost : (m : Mode) (c : ℕ) → total token_cost (turns m c).out + pending (turns m c).mode ≤ pending m + 2
 turn-cost gap c = rw afresh-kind (gap-cost (kind_of c) c)
-turn-cost (in_word w) c = rw (in_words-kind, afresh-kind) (word-cost (kind_of c) w c)
+turn-cost (in_word w) c = rw (in_words_kind, afresh-kind) (word-cost (kind_of c) w c)
 turn-cost comment c = either (λ t. total token_cost t.out + pending t.mode ≤ 4) (eqb c 10) _ _ (omega arith) (omega arith)
 
 end-cost : (m : Mode) → total token_cost (at_end m) ≤ pending m
@@ -114,7 +114,7 @@ word-opens Letter w c = omega arith
 
 turn-opens : (m : Mode) (c : ℕ) → total is_open (turns m c).out + 0 ≤ 0 + 1
 turn-opens gap c = rw afresh-kind (gap-opens (kind_of c) c)
-turn-opens (in_word w) c = rw (in_words-kind, afresh-kind) (word-opens (kind_of c) w c)
+turn-opens (in_word w) c = rw (in_words_kind, afresh-kind) (word-opens (kind_of c) w c)
 turn-opens comment c = either (λ t. total is_open t.out + 0 ≤ 1) (eqb c 10) _ _ (omega arith) (omega arith)
 
 end-opens : (m : Mode) → total is_open (at_end m) ≤ 0

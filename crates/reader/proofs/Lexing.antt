@@ -33,8 +33,8 @@ afresh-kind o c = by (is_blank c) (eqb c 59) (eqb c 40) (eqb c 41)
     by false false false true = refl
     by false false false false = refl
 
-pub in_words-kind : (c : ℕ) → in_words c ≡ is_letter (kind_of c)
-in_words-kind c = by (is_blank c) (eqb c 59) (eqb c 40) (eqb c 41)
+pub in_words_kind : (c : ℕ) → in_words c ≡ is_letter (kind_of c)
+in_words_kind c = by (is_blank c) (eqb c 59) (eqb c 40) (eqb c 41)
   where
     by : (b s p q : Bool) →
         not (b || (s || (p || q))) ≡ is_letter (cond b Blank (cond s Comment (cond p Opening (cond q Closing Letter))))

@@ -7,7 +7,7 @@ use Rattle.hol.specs.Text.{opens, closes, word, gap, in_word, comment, tokens}
 use Rattle.reader.specs.Next.{kind_of, CommentTo, WordTo}
 use Rattle.reader.specs.declared.tokens.Kind.{Kind}
 use Rattle.reader.specs.declared.tokens.Kind.TheVariants.{Blank, Comment, Opening, Closing, Letter}
-use Rattle.reader.proofs.Lexing.{afresh_by, is_letter, afresh-kind, in_words-kind}
+use Rattle.reader.proofs.Lexing.{afresh_by, is_letter, afresh-kind, in_words_kind}
 
 no_letter : (k : Kind) → (k ≡ Letter → ⊥) → is_letter k ≡ false
 no_letter Blank n = refl
@@ -54,13 +54,13 @@ module _ (t : List ℕ) (i : ℕ) (h : i < length t) where
 
   pub word_goes_on : (w : List ℕ) → kind_of (get_or t i 0) ≡ Letter
       → tokens (in_word w) (drop i t) ≡ tokens (in_word (w ++ (get_or t i 0 ∷ []))) (drop (i + 1) t)
-  word_goes_on w k = rw (cut, in_words-kind, k)
+  word_goes_on w k = rw (cut, in_words_kind, k)
 
   pub word_over : (w : List ℕ) → (kind_of (get_or t i 0) ≡ Letter → ⊥)
       → tokens (in_word w) (drop i t) ≡ word w ∷ tokens gap (drop i t)
   word_over w n =
       let no : is_letter (kind_of (get_or t i 0)) ≡ false = no_letter (kind_of (get_or t i 0)) n in
-      simp (cut, in_words-kind, no, afresh-kind) (word_first (kind_of (get_or t i 0)) w (get_or t i 0) (drop (i + 1) t))
+      simp (cut, in_words_kind, no, afresh-kind) (word_first (kind_of (get_or t i 0)) w (get_or t i 0) (drop (i + 1) t))
 
 -- LOOPS
 

@@ -1,5 +1,5 @@
 -- A frame whose words were lent to a call above it: it holds what it held.
-use Rattle.std.proofs.Common.{◌≡◌, ℕ, ◌+◌, ◌-◌, ◌≤◌, List, length, take, sym, refl, ap, ◌∙◌, arith, take-take}
+use Rattle.std.proofs.Common.{◌≡◌, ℕ, ◌+◌, ◌-◌, ◌≤◌, length, take, sym, ap, ◌∙◌, arith, take-take}
 use Rattle.stack.specs.Frames.{held, capacity, Within, Same, Restores}
 use Rattle.stack.specs.declared.frame.Frame.{Frame}
 use Rattle.stack.proofs.Words.{above-length}

@@ -1,8 +1,8 @@
 -- What the instances do at a leaf is what their change does.
-use Rattle.std.proofs.Common.{◌≡◌, ℕ, ◌+◌, ◌*◌, ◌<◌, ◌≤◌, Bool, true, false, cond, ◌&&◌, ◌⊎◌, List, Some, None, Result, sym, refl, ap, ◌∙◌, inl, inr, true≢false, arith}
+use Rattle.std.proofs.Common.{◌≡◌, ℕ, ◌*◌, ◌<◌, Bool, true, false, cond, ◌⊎◌, List, Some, None, Result, sym, refl, ap, ◌∙◌, inl, inr, true≢false, arith}
 use mathlib.Core.Option.{some}
 use Rattle.hol.specs.Base.{Word}
-use Rattle.hol.specs.Syntax.{Ty, Tys, Tm, fvar, bvar, const, app, lam, TySubst, subst_ty, subst_tys, inst_tm, close_at, same_var, Subst, find_tm, subst_tm}
+use Rattle.hol.specs.Syntax.{Ty, Tys, Tm, fvar, bvar, const, TySubst, subst_ty, subst_tys, inst_tm, close_at, same_var, Subst, subst_tm}
 use Rattle.store.specs.Measures.{nodes_ty, nodes_tys, nodes_tm}
 use Rattle.store.specs.State.{Contents, State, Stays}
 use Rattle.store.specs.Builds.{Made, Full, IsFree, IsBound, IsConst}

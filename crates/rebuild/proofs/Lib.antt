@@ -7,6 +7,7 @@ pub mod Steps
 -- the loop: what it keeps, and what falls
 pub mod Loop
 -- the definitions of opening, closing and substitution are changes of leaves
+pub mod Changes
 -- what the instances do at leaves
 pub mod Leaves
 -- tests of free variables, and looking one up among entries

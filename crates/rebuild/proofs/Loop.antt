@@ -1,5 +1,5 @@
 -- The loop of the machine: what every turn keeps, and the number of moves to come as a function of the words.
-use Rattle.std.proofs.Common.{◌≡◌, ℕ, ◌+◌, ◌*◌, ◌^◌, ◌<◌, ◌≤◌, cond, eqb, ◌⊎◌, List, [], ◌∷◌, sym, refl, ap, ◌∙◌, inl, inr, arith}
+use Rattle.std.proofs.Common.{◌≡◌, ℕ, ◌+◌, ◌*◌, ◌^◌, ◌<◌, ◌≤◌, cond, eqb, ◌⊎◌, List, [], ◌∷◌, refl, ap, ◌∙◌, inl, inr, arith}
 use mathlib.Core.Option.{some}
 use Rattle.hol.specs.Base.{option}
 use Rattle.hol.specs.Syntax.{Tm}
@@ -27,21 +27,21 @@ turn-moves c ws (Down n k) = 1 + (4 * option (c.term n) 0 nodes_tm + word-moves 
 turn-moves c ws (Up n k) = word-moves c ws
 turn-moves c ws (End n) = 0
 
-word-moves_are : {c : Contents} {ws : List ℕ} {p : Path} → Holds c ws p → word-moves c ws ≡ pending p
-word-moves_are holds_root = refl
-word-moves_are {c} (holds_function {n = n} {x = x} e f h) =
-    let i = word-moves_are h in
+word_moves_are : {c : Contents} {ws : List ℕ} {p : Path} → Holds c ws p → word-moves c ws ≡ pending p
+word_moves_are holds_root = refl
+word_moves_are {c} (holds_function {n = n} {x = x} e f h) =
+    let i = word_moves_are h in
     let j : option (c.term n) 0 nodes_tm ≡ nodes_tm x = rw f in
     rw e (omega arith)
-word-moves_are (holds_argument e f h) = let i = word-moves_are h in rw e (omega arith)
-word-moves_are (holds_body e f h) = let i = word-moves_are h in rw e (omega arith)
+word_moves_are (holds_argument e f h) = let i = word_moves_are h in rw e (omega arith)
+word_moves_are (holds_body e f h) = let i = word_moves_are h in rw e (omega arith)
 
 moves_are : {d : ℕ} {c : Contents} {ws : List ℕ} {turn : Turn} {x : Point} → At d c ws turn x → turn-moves c ws turn ≡ moves x
 moves_are {c = c} (at_down {n = n} {u = u} e h q) =
-    let i = word-moves_are h in
+    let i = word_moves_are h in
     let j : option (c.term n) 0 nodes_tm ≡ nodes_tm u = rw e in
     omega arith
-moves_are (at_up e h q) = word-moves_are h
+moves_are (at_up e h q) = word_moves_are h
 moves_are (at_end e) = refl
 
 -- the end has no move, and nothing else is the end

@@ -1,8 +1,8 @@
 -- The stack's words and the path that they hold; bounds on paths.
-use Rattle.std.proofs.Common.{◌≡◌, ℕ, ◌+◌, ◌*◌, ◌<◌, ◌≤◌, List, [], ◌∷◌, length, refl, ap, arith}
+use Rattle.std.proofs.Common.{◌≡◌, ℕ, ◌+◌, ◌*◌, ◌≤◌, List, ◌∷◌, length, ap, arith}
 use mathlib.Core.Option.{some}
 use Rattle.hol.specs.Syntax.{Ty, Tm, app, lam}
-use Rattle.store.specs.Measures.{nodes_ty, nodes_tm}
+use Rattle.store.specs.Measures.{nodes_tm}
 use Rattle.store.specs.State.{Contents, Keeps}
 use Rattle.rebuild.specs.Rebuilt.{Change, rebuilt}
 use Rattle.rebuild.specs.Machine.{Path, root, function_of, argument_of, body_of, deep, plug, finished, waiting, code, Holds, holds_root, holds_function, holds_argument, holds_body}

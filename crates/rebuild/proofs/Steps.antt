@@ -1,5 +1,5 @@
 -- One lemma for each move of the machine that builds terms anew.
-use Rattle.std.proofs.Common.{◌≡◌, ℕ, ◌+◌, ◌-◌, ◌*◌, ◌^◌, ◌<◌, ◌≤◌, true, false, ◌⊎◌, List, [], ◌∷◌, length, Some, sym, refl, ap, ◌∙◌, subst, inl, inr, true≢false, arith}
+use Rattle.std.proofs.Common.{◌≡◌, ℕ, ◌+◌, ◌-◌, ◌*◌, ◌^◌, ◌<◌, true, ◌⊎◌, List, ◌∷◌, length, Some, sym, refl, ap, ◌∙◌, subst, inl, inr, true≢false, arith}
 use mathlib.Core.Option.{some}
 use Rattle.hol.specs.Syntax.{Ty, Tm, fvar, bvar, const, app, lam}
 use Rattle.store.specs.Measures.{nodes_ty, nodes_tm}
@@ -10,7 +10,7 @@ use Rattle.store.specs.declared.view.TermView.{TermView}
 use Rattle.store.specs.declared.view.TermView.TheVariants.{Free, Bound, Constant}
 use Rattle.store.proofs.Growth.{grows_same}
 use Rattle.rebuild.specs.Rebuilt.{Change, rebuilt, is_leaf}
-use Rattle.rebuild.specs.Machine.{Path, root, function_of, argument_of, body_of, deep, plug, finished, waiting, code, Holds, holds_root, holds_function, holds_argument, holds_body, Point, down, up, end, outcome, spent, At, at_down, at_up, at_end, Moved, Stuck}
+use Rattle.rebuild.specs.Machine.{Path, function_of, argument_of, body_of, deep, plug, code, Holds, holds_root, holds_function, holds_argument, holds_body, Point, down, up, end, outcome, spent, At, at_down, at_up, at_end, Moved, Stuck}
 use Rattle.rebuild.specs.declared.turn.Turn.TheVariants.{Down, Up, End}
 use Rattle.rebuild.specs.declared.turn.Wait.{Wait}
 use Rattle.rebuild.specs.declared.turn.Wait.TheVariants.{Function, Argument, Body}

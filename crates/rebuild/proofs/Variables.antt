@@ -1,12 +1,12 @@
 -- Whether two free variables are the same, and looking one up among entries that lie in words.
-use Rattle.std.proofs.Common.{◌≡◌, ℕ, suc, ◌-◌, ◌<◌, ◌≤◌, Bool, true, false, cond, ◌&&◌, List, [], ◌∷◌, length, get_or, take, drop, Some, None, sym, refl, ap, ◌∙◌, subst, arith, take_all}
+use Rattle.std.proofs.Common.{◌≡◌, ℕ, suc, ◌-◌, ◌<◌, ◌≤◌, Bool, true, false, List, [], ◌∷◌, length, get_or, take, drop, Some, None, sym, refl, ap, ◌∙◌, subst, arith, take_all}
 use mathlib.Core.Option.{some}
-use Rattle.hol.specs.Base.{Word, same_word}
-use Rattle.hol.specs.Syntax.{Ty, Tm, fvar, same_ty, same_var, Subst, find_tm}
-use Rattle.store.specs.State.{Contents, State, Stays}
+use Rattle.hol.specs.Base.{Word}
+use Rattle.hol.specs.Syntax.{Ty, Tm, fvar, same_var, Subst, find_tm}
+use Rattle.store.specs.State.{State, Stays}
 use Rattle.store.proofs.Growth.{stays_same, stays_on}
 use Rattle.rebuild_types.proofs.Tests.{word_test, type_test}
-use Rattle.rebuild.specs.Instances.{Entries, nothing, entry, Finds}
+use Rattle.rebuild.specs.Instances.{Entries, entry, Finds}
 
 -- the test of a variable of the number x and the type a against another, in the state s
 abbrev pub Tested : State → (x a y b : ℕ) → Bool → Type 0

@@ -4,4 +4,5 @@ pub mod Rebuilt
 pub mod Machine
 -- which change an instance does, by its numbers
 pub mod Instances
-pub mod Changes
+-- which change an instance does stays while the store grows
+pub mod Kept

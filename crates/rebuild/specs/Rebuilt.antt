@@ -1,6 +1,6 @@
 -- Terms built anew: a change of the leaves, which may depend on how many λs are around, and of the types of λs. Opening, closing and
 -- both substitutions are such changes.
-use Rattle.std.specs.Prelude.{◌≡◌, ℕ, ◌+◌, Bool, true, false}
+use Rattle.std.specs.Prelude.{ℕ, ◌+◌, Bool, true, false}
 use Rattle.hol.specs.Base.{Word}
 use Rattle.hol.specs.Syntax.{Ty, Tm, fvar, bvar, const, app, lam, TySubst, subst_ty, inst_tm, open_at, close_at, Subst, subst_tm}
 

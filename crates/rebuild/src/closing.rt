@@ -8,7 +8,7 @@ ghost use Rattle.store.specs.State.{Stays};
 ghost use Rattle.stack.specs.Frames.{Restores};
 ghost use Rattle.rebuild_types.specs.Rebuilds.{Rebuilds};
 ghost use Rattle.rebuild.specs.Instances.{Closes};
-ghost use Rattle.rebuild.specs.Changes.{closes_kept};
+ghost use Rattle.rebuild.specs.Kept.{closes_kept};
 
 use super::leaf::Leaf;
 use super::rebuild;

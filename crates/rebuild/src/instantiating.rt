@@ -7,7 +7,7 @@ ghost use Rattle.stack.specs.Frames.{Restores};
 ghost use Rattle.rebuild_types.specs.Entries.{TyEntries};
 ghost use Rattle.rebuild_types.specs.Rebuilds.{Rebuilds};
 ghost use Rattle.rebuild.specs.Instances.{Instantiates};
-ghost use Rattle.rebuild.specs.Changes.{instantiates_kept};
+ghost use Rattle.rebuild.specs.Kept.{instantiates_kept};
 
 use super::leaf::Leaf;
 use super::rebuild;

@@ -6,7 +6,7 @@ ghost use Rattle.store.specs.Measures.{nodes_tm};
 ghost use Rattle.stack.specs.Frames.{Restores};
 ghost use Rattle.rebuild_types.specs.Rebuilds.{Rebuilds};
 ghost use Rattle.rebuild.specs.Instances.{Opens};
-ghost use Rattle.rebuild.specs.Changes.{opens_kept};
+ghost use Rattle.rebuild.specs.Kept.{opens_kept};
 
 use super::leaf::Leaf;
 use super::rebuild;

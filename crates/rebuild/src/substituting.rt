@@ -8,7 +8,7 @@ ghost use Rattle.store.specs.State.{Stays};
 ghost use Rattle.stack.specs.Frames.{Restores};
 ghost use Rattle.rebuild_types.specs.Rebuilds.{Rebuilds};
 ghost use Rattle.rebuild.specs.Instances.{Entries, Finds, Substitutes};
-ghost use Rattle.rebuild.specs.Changes.{substitutes_kept};
+ghost use Rattle.rebuild.specs.Kept.{substitutes_kept};
 
 use super::closing::same_variable;
 use super::leaf::Leaf;

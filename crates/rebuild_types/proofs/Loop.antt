@@ -29,25 +29,25 @@ turn-moves c ws (DownTypes n) = 1 + (4 * option (c.types n) 0 nodes_tys + word-m
 turn-moves c ws (Up n) = word-moves c ws
 turn-moves c ws (End n) = 0
 
-word-moves_are : {c : Contents} {s : Sort} {ws : List ℕ} {p : Path s} → Holds c s ws p → word-moves c ws ≡ pending p
-word-moves_are holds_root = refl
-word-moves_are (holds_args e f h) = let i = word-moves_are h in rw e (omega arith)
-word-moves_are {c} (holds_head {vs = vs} {n = n} {bs = bs} e f h) =
-    let i = word-moves_are h in
+word_moves_are : {c : Contents} {s : Sort} {ws : List ℕ} {p : Path s} → Holds c s ws p → word-moves c ws ≡ pending p
+word_moves_are holds_root = refl
+word_moves_are (holds_args e f h) = let i = word_moves_are h in rw e (omega arith)
+word_moves_are {c} (holds_head {vs = vs} {n = n} {bs = bs} e f h) =
+    let i = word_moves_are h in
     let j : option (c.types n) 0 nodes_tys ≡ nodes_tys bs = rw f in
     rw e (omega arith)
-word-moves_are (holds_tail e f h) = let i = word-moves_are h in rw e (omega arith)
+word_moves_are (holds_tail e f h) = let i = word_moves_are h in rw e (omega arith)
 
 pub moves_are : {c : Contents} {ws : List ℕ} {turn : Turn} {x : Point} → At c ws turn x → turn-moves c ws turn ≡ moves x
 moves_are {c} (at_type {n = n} {a = a} e h) =
-    let i = word-moves_are h in
+    let i = word_moves_are h in
     let j : option (c.typ n) 0 nodes_ty ≡ nodes_ty a = rw e in
     omega arith
 moves_are {c} (at_types {n = n} {bs = bs} e h) =
-    let i = word-moves_are h in
+    let i = word_moves_are h in
     let j : option (c.types n) 0 nodes_tys ≡ nodes_tys bs = rw e in
     omega arith
-moves_are (at_up e h) = word-moves_are h
+moves_are (at_up e h) = word_moves_are h
 moves_are (at_end e) = refl
 
 -- the end has no move

@@ -30,21 +30,21 @@ turn-moves c ws (Up n) = word-moves c ws
 turn-moves c ws (End n) = 0
 turn-moves c ws Untyped = 0
 
-word-moves_are : {c : Contents} {ws ss : List ℕ} {p : Path} → Holds c ws ss p → word-moves c ws ≡ pending p
-word-moves_are (holds_root e q) = rw e refl
-word-moves_are {c} (holds_func {n = n} {x = x} e f h) =
-    let i = word-moves_are h in
+word_moves_are : {c : Contents} {ws ss : List ℕ} {p : Path} → Holds c ws ss p → word-moves c ws ≡ pending p
+word_moves_are (holds_root e q) = rw e refl
+word_moves_are {c} (holds_func {n = n} {x = x} e f h) =
+    let i = word_moves_are h in
     let j : option (c.term n) 0 nodes_tm ≡ nodes_tm x = rw f in
     rw e (omega arith)
-word-moves_are (holds_arg e f h) = let i = word-moves_are h in rw e (omega arith)
-word-moves_are (holds_body e q f h) = let i = word-moves_are h in rw e (omega arith)
+word_moves_are (holds_arg e f h) = let i = word_moves_are h in rw e (omega arith)
+word_moves_are (holds_body e q f h) = let i = word_moves_are h in rw e (omega arith)
 
 pub moves_are : {c : Contents} {ws ss : List ℕ} {turn : Turn} {x : Point} → At c ws ss turn x → turn-moves c ws turn ≡ moves x
 moves_are {c} (at_down {n = n} {t = t} e h) =
-    let i = word-moves_are h in
+    let i = word_moves_are h in
     let j : option (c.term n) 0 nodes_tm ≡ nodes_tm t = rw e in
     omega arith
-moves_are (at_up e h) = word-moves_are h
+moves_are (at_up e h) = word_moves_are h
 moves_are (at_end e) = refl
 moves_are at_untyped = refl
 

@@ -36,9 +36,9 @@ nodes_positive (app f x) = omega arith
 nodes_positive (lam a t) = omega arith
 
 -- THE WIDEST TYPE OF A CONSTANT
-widest-built_in : (th : Theory) → 9 ≤ widest th
-widest-built_in [] = omega arith
-widest-built_in (d ∷ th) = let h = widest-built_in th in omega arith
+widest_built_in : (th : Theory) → 9 ≤ widest th
+widest_built_in [] = omega arith
+widest_built_in (d ∷ th) = let h = widest_built_in th in omega arith
 
 of_decl : (d : Decl) (th : Theory) (w : Word) → nodes_of (declared_const th w) ≤ widest th → nodes_of (declared_const (d ∷ th) w) ≤ widest (d ∷ th)
 of_decl d th w h = go (const_of_decl d)
@@ -54,7 +54,7 @@ widest-declared (d ∷ th) w = of_decl d th w (widest-declared th w)
 
 pub declared-fits : (th : Theory) (w : Word) → declared th w ≤ widest th
 declared-fits th w =
-    let h = widest-built_in th in
+    let h = widest_built_in th in
     let k = widest-declared th w in
     elim (decided (same_word w w_eq)) [
       | inl t ↦ rw t (omega arith)

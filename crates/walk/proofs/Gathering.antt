@@ -22,13 +22,13 @@ pub gathered_all : {I : Type 0} {c : Contents} {at : ℕ → Option I} {act : I 
     → Gathering c at act size goal bound ws ns n → ws ≡ [] → Names c (take n ns) goal
 gathered_all h q = rw (ended h.pending q) at h.names
 
-stand_same-length : {I : Type 0} {at : ℕ → Option I} {ns : List ℕ} {is : List I} → Stand at ns is → length ns ≡ length is
-stand_same-length done = refl
-stand_same-length (more e h) = ap suc (stand_same-length h)
+stand_same_length : {I : Type 0} {at : ℕ → Option I} {ns : List ℕ} {is : List I} → Stand at ns is → length ns ≡ length is
+stand_same_length done = refl
+stand_same_length (more e h) = ap suc (stand_same_length h)
 
 -- as many names as words in use
 pub names_length : (c : Contents) (ns : List ℕ) (n : ℕ) {ws : List Word} → n ≤ length ns → Names c (take n ns) ws → length ws ≡ n
-names_length c ns n l h = sym (stand_same-length h) ∙ length-take-le n ns l
+names_length c ns n l h = sym (stand_same_length h) ∙ length-take-le n ns l
 
 -- an answer for another want of room
 pub gathers_for : {X : Type 0} (p q : Type 0) (c : Contents) (ws : List Word) (n : ℕ) (ms : List ℕ) (m : ℕ) (r : Result X NoRoom)

@@ -1,4 +1,3 @@
-use Rattle.store.specs.State.{State}
 use Rattle.store.specs.Views.{ViewLambda}
 use Rattle.stack.specs.Frames.{held, capacity}
 use Rattle.rebuild.specs.Machine.{Point, Moved, Moves, Stuck}

@@ -1,4 +1,4 @@
-use Rattle.std.proofs.Common.{◌+◌, ◌-◌, ◌^◌, ◌<◌, length, refl, ap, ◌∙◌, arith, rules}
+use Rattle.std.proofs.Common.{◌-◌, ◌^◌, ◌<◌, length, refl, ap, arith, rules}
 use Rattle.stack.specs.Frames.{held, capacity}
 use Rattle.stack.proofs.Words.{unmoved, below-held}
 use Rattle.stack.proofs.Lent.{same_trans}

@@ -2,7 +2,7 @@
 ghost use Rattle.std.specs.Prelude.{◌≡◌};
 ghost use Rattle.std.proofs.Math.Option.{some};
 ghost use Rattle.hol.specs.Base.{Word};
-ghost use Rattle.hol.specs.Theory.{Theory, known as known-seq};
+ghost use Rattle.hol.specs.Theory.{Theory, known as known_seq};
 ghost use Rattle.hol.specs.Kernel.{find_def};
 ghost use Rattle.store.specs.State.{Stays};
 ghost use Rattle.signature.specs.Finds.{Finds};
@@ -31,7 +31,7 @@ impl Decls<'_> {
     // The list of assumptions and the conclusion of the axiom or theorem of this name.
     pub fn known<S: Store>(&self, store: &mut S, name: u64) -> Option<(u64, u64)>
         ensures stays { Stays (S.state store.old) (S.state store.new) }
-        ensures found { (th : Theory) (w : Word) → Knows self.now (S.state store.old).contents th → (S.state store.old).contents.word name ≡ some w → Finds (SeqAt (S.state store.old).contents) (known-seq th w) result }
+        ensures found { (th : Theory) (w : Word) → Knows self.now (S.state store.old).contents th → (S.state store.old).contents.word name ≡ some w → Finds (SeqAt (S.state store.old).contents) (known_seq th w) result }
     {
         let no_hyps = store.empty();
         match self.find(store, Wanted::Sequents, name) {

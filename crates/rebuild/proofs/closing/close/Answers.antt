@@ -2,7 +2,7 @@ use Rattle.std.proofs.Common.{◌-◌, length, refl, arith}
 use Rattle.store.specs.Measures.{nodes_tm}
 use Rattle.rebuild.specs.Rebuilt.{closing}
 use Rattle.rebuild.proofs.closing.close.Goals as goal
-use Rattle.rebuild.specs.Changes.{close_rebuilt, rebuilds_as}
+use Rattle.rebuild.proofs.Changes.{close_rebuilt, rebuilds_as}
 
 pub rebuild-requires : goal.rebuild-requires
 rebuild-requires g c =
