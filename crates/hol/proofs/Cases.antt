@@ -1,9 +1,9 @@
 -- Small texts and what the definitions make of them, each by computation; and values in a model where a type variable has three
 -- elements.
-use Rattle.std.proofs.Common.{◌≡◌, ℕ, List, [], ◌∷◌, ◌++◌, codes, refl}
+use Rattle.std.proofs.Common.{◌≡◌, ℕ, List, [], ◌++◌, codes, refl}
 use mathlib.Core.Option.{Option, some, none}
-use Rattle.hol.specs.Base.{Word, bind}
-use Rattle.hol.specs.Syntax.{Ty, tyvar, Tys, tnil, Tm, fvar, bvar, const, app, lam, bool, fun, one, equal, w_choice, Seq}
+use Rattle.hol.specs.Base.{Word}
+use Rattle.hol.specs.Syntax.{Ty, tyvar, tnil, Tm, fvar, bvar, const, app, lam, fun, one, equal, w_choice, Seq}
 use Rattle.hol.specs.Theory.{known}
 use Rattle.hol.specs.Kernel.{seq}
 use Rattle.hol.specs.Models.{Model, value, consts}

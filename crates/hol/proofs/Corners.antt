@@ -1,11 +1,10 @@
 -- The corners of the text format, each by computation.
-use Rattle.std.proofs.Common.{◌≡◌, ℕ, List, [], ◌∷◌, ◌++◌, codes, refl}
-use mathlib.Core.Option.{Option, some, none}
-use Rattle.hol.specs.Base.{Word}
-use Rattle.hol.specs.Syntax.{Ty, tyvar, Tm, fvar, lam, bvar, bool, fun, equal, Seq}
+use Rattle.std.proofs.Common.{◌≡◌, [], ◌∷◌, ◌++◌, codes, refl}
+use mathlib.Core.Option.{some}
+use Rattle.hol.specs.Syntax.{tyvar, Tm, fvar, lam, bvar, bool, fun, equal}
 use Rattle.hol.specs.Theory.{d_const, d_type}
 use Rattle.hol.specs.Kernel.{seq}
-use Rattle.hol.specs.Text.{Token, opens, closes, word, gap, tokens, Verdict, accepted, judge}
+use Rattle.hol.specs.Text.{opens, closes, word, gap, tokens, accepted, judge}
 use Rattle.hol.proofs.Cases.{accepts, refuses, breaks, brief, named_in}
 
 -- ; ends a word and begins a comment, which a return does not end and a line feed does

@@ -7,7 +7,7 @@ use Rattle.hol.specs.Theory.{Decl, d_type, d_const, d_def, d_axiom, d_thm, Theor
 use Rattle.hol.specs.Models.{Model, Cards, Values, card_tys, const_value, cards_of, consts, value}
 use Rattle.hol.specs.Says.{Wf, wf_nil, wf_cons}
 use Rattle.hol.proofs.Tools.{decided, clash, both, not_true, some_same, all_in}
-use Rattle.hol.proofs.Equality.{word_eq, word_refl, in_words}
+use Rattle.hol.proofs.Equality.{word_refl, in_words}
 use Rattle.hol.proofs.Typing.{of_type}
 use Rattle.hol.proofs.Growth.{apart, grows_by, ok_grows, const-grows}
 use Rattle.hol.proofs.TypeSubst.{const_is, zip_ok}

@@ -1,10 +1,10 @@
 -- Mistakes that provers have made, and that the definitions do not: each a small text, by computation.
-use Rattle.std.proofs.Common.{◌≡◌, List, [], ◌∷◌, ◌++◌, codes, refl}
-use mathlib.Core.Option.{Option, some, none}
-use Rattle.hol.specs.Syntax.{Ty, tyvar, Tm, fvar, bvar, const, app, lam, bool, fun, equal, Seq}
+use Rattle.std.proofs.Common.{◌≡◌, [], ◌∷◌, codes, refl}
+use mathlib.Core.Option.{some}
+use Rattle.hol.specs.Syntax.{Ty, tyvar, Tm, fvar, app, lam, bool, fun, equal}
 use Rattle.hol.specs.Kernel.{seq}
 use Rattle.hol.specs.Text.{judge}
-use Rattle.hol.proofs.Cases.{accepts, refuses, brief, named_in}
+use Rattle.hol.proofs.Cases.{refuses, brief, named_in}
 
 abbrev 'a : Ty
 'a = tyvar (codes "'a")

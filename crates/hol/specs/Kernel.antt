@@ -1,9 +1,9 @@
 -- The rules as functions from sequents to a sequent; none where a rule does not fit. Texts are judged by these.
-use Rattle.std.specs.Prelude.{ℕ, Bool, true, false, cond, not, ◌&&◌, ◌||◌, List, [], ◌∷◌, ◌++◌, map}
+use Rattle.std.specs.Prelude.{ℕ, Bool, cond, not, ◌&&◌, List, [], ◌∷◌, map}
 use Rattle.std.proofs.Math.Option.{Option, some, none}
-use Rattle.hol.specs.Base.{option, bind, guard, nth, all, any, Word, same_word}
-use Rattle.hol.specs.Syntax.{Ty, Tys, tnil, tcons, Tm, fvar, bvar, const, app, lam, same_ty, same_tm, w_eq, w_choice, bool, fun, one, arrow, equal, TyEntry, TySubst, inst_tm, tyvars_ty, zip, open_at, abstract, free_in, Entry, Subst, subst_tm, Seq}
-use Rattle.hol.specs.Theory.{Decl, d_type, d_const, d_def, d_axiom, d_thm, Theory, ok_ty, const_at, type_of, has_type, known}
+use Rattle.hol.specs.Base.{bind, guard, nth, all, any, Word, same_word}
+use Rattle.hol.specs.Syntax.{Ty, Tys, tnil, tcons, Tm, fvar, bvar, const, app, lam, same_ty, same_tm, w_eq, w_choice, bool, fun, one, arrow, equal, TySubst, inst_tm, tyvars_ty, zip, open_at, abstract, free_in, Entry, Subst, subst_tm, Seq}
+use Rattle.hol.specs.Theory.{d_type, d_const, d_def, d_axiom, d_thm, Theory, ok_ty, const_at, type_of, has_type, known}
 
 -- ASSUMPTION LISTS, in which each assumption stands once
 abbrev pub in_hyps : Tm → List Tm → Bool

@@ -1,9 +1,9 @@
 -- What terms are worth where every type has finitely many elements. The elements of a type with n elements are the numbers below n.
-use Rattle.std.specs.Prelude.{◌≡◌, ℕ, zero, suc, ◌+◌, ◌*◌, ◌/◌, ◌%◌, ◌^◌, ◌<◌, Bool, true, false, cond, List, [], ◌∷◌, ◌==◌}
-use Rattle.std.proofs.Math.Option.{Option, some, none}
+use Rattle.std.specs.Prelude.{◌≡◌, ℕ, zero, suc, ◌+◌, ◌*◌, ◌/◌, ◌%◌, ◌^◌, ◌<◌, Bool, true, cond, List, [], ◌∷◌, ◌==◌}
+use Rattle.std.proofs.Math.Option.{Option}
 use Rattle.hol.specs.Base.{option, nth, all, Word, same_word}
 use Rattle.hol.specs.Syntax.{Ty, tyvar, tyapp, Tys, tnil, tcons, Tm, fvar, bvar, const, app, lam, w_bool, w_eq, w_choice, Arrow, arrow, tyvars_ty}
-use Rattle.hol.specs.Theory.{Decl, d_type, d_const, d_def, d_axiom, d_thm, Theory, Declared, type_in}
+use Rattle.hol.specs.Theory.{d_type, d_const, d_def, d_axiom, d_thm, Theory, Declared, type_in}
 
 -- A model says how many elements each declared type has, and what each constant is worth of which nothing is said:
 --   base_card c       one less than the number of elements of the type c, so that there is at least one

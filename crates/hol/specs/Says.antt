@@ -1,10 +1,10 @@
 -- The theorems, as types, and what the call promises.
-use Rattle.std.specs.Prelude.{◌≡◌, ℕ, ◌+◌, ◌*◌, ◌<◌, Bool, true, false, not, ◌&&◌, List, [], ◌∷◌, length, Ok, Err, Result}
+use Rattle.std.specs.Prelude.{◌≡◌, ℕ, ◌+◌, ◌*◌, ◌<◌, Bool, true, not, ◌&&◌, List, [], ◌∷◌, length, Ok, Err, Result}
 use Rattle.std.proofs.Math.Option.{some}
 use Rattle.hol.specs.declared.Fault.{Fault}
 use Rattle.hol.specs.declared.Fault.TheVariants.{Broken, Refused, NoRoom}
 use Rattle.hol.specs.Base.{Word, all}
-use Rattle.hol.specs.Syntax.{Ty, Tm, bvar, lam, bool, fun, equal, Seq}
+use Rattle.hol.specs.Syntax.{Tm, bvar, lam, bool, fun, equal, Seq}
 use Rattle.hol.specs.Theory.{Decl, d_type, d_const, d_def, d_axiom, d_thm, Theory, Declared, type_of, has_type, admissible}
 use Rattle.hol.specs.Kernel.{in_hyps, Step, step}
 use Rattle.hol.specs.Rules.{Derives}

@@ -1,7 +1,7 @@
 -- Types, terms and sequents; substitution in them.
-use Rattle.std.specs.Prelude.{ℕ, zero, suc, ◌+◌, Bool, true, false, cond, ◌&&◌, ◌||◌, List, [], ◌∷◌, ◌++◌, codes, ◌==◌}
+use Rattle.std.specs.Prelude.{ℕ, ◌+◌, Bool, true, false, cond, ◌&&◌, ◌||◌, List, [], ◌∷◌, ◌++◌, codes, ◌==◌}
 use Rattle.std.proofs.Math.Option.{Option, some, none}
-use Rattle.hol.specs.Base.{option, bind, guard, Word, same_word, among}
+use Rattle.hol.specs.Base.{option, guard, Word, same_word, among}
 
 -- a type is a type variable, or a named type with its arguments
 mutual

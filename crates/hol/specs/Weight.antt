@@ -1,8 +1,8 @@
 -- How large the terms of a text are. The bound on the words that must be lent is stated in these sizes, and nothing else is.
-use Rattle.std.specs.Prelude.{ℕ, zero, suc, ◌+◌, Bool, true, false, cond, List, [], ◌∷◌, ◌++◌, length, codes}
-use Rattle.std.proofs.Math.Option.{Option, some, none}
+use Rattle.std.specs.Prelude.{ℕ, ◌+◌, Bool, false, cond, List, [], ◌∷◌, ◌++◌, length, codes}
+use Rattle.std.proofs.Math.Option.{Option}
 use Rattle.hol.specs.Base.{Word, option, nth, same_word}
-use Rattle.hol.specs.Syntax.{Ty, tyvar, tyapp, Tys, tnil, tcons, Tm, fvar, bvar, const, app, lam, Entry, Subst, Seq}
+use Rattle.hol.specs.Syntax.{Ty, tyvar, tyapp, Tys, tnil, tcons, Tm, fvar, bvar, const, app, lam, Subst, Seq}
 use Rattle.hol.specs.Theory.{Decl, Theory, const_at}
 use Rattle.hol.specs.Kernel.{Step, s_refl, s_trans, s_use, s_lam, s_beta, s_assume, s_eqmp, s_anti, s_inst, s_types, s_eta, s_some, s_unfold, s_known, step}
 use Rattle.hol.specs.Text.{Sexp, atom, list, Sexps, nil, cons, sexps, word_of, read_term, read_step, Outcome, fails, declares, command}

@@ -1,5 +1,5 @@
 -- Terms taken from a frame and put before a list, one after the other: their images under a function, but for those left out.
-use Rattle.std.proofs.Common.{◌≡◌, ℕ, ◌+◌, ◌-◌, ◌<◌, ◌≤◌, Bool, List, [], ◌∷◌, reverse, Ok, Err, Result, refl, ap, subst, inl, inr, arith}
+use Rattle.std.proofs.Common.{◌≡◌, ℕ, ◌+◌, ◌<◌, ◌≤◌, Bool, List, [], ◌∷◌, reverse, Ok, Err, Result, refl, ap, subst, inl, inr, arith}
 use mathlib.Core.List.{reverse_aux}
 use mathlib.Core.Option.{some}
 use Rattle.hol.specs.Syntax.{Tm}

@@ -1,5 +1,5 @@
 -- A name compared with bytes, from the front.
-use Rattle.std.proofs.Common.{◌≡◌, ℕ, ◌+◌, ◌<◌, ◌≤◌, Bool, true, false, ◌&&◌, eqb, ◌⊎◌, List, [], ◌∷◌, length, get_or, drop, sym, refl, ap, ◌∙◌, inl, inr, arith, eq-eqb, eqb-true}
+use Rattle.std.proofs.Common.{◌≡◌, ℕ, ◌+◌, ◌<◌, ◌≤◌, Bool, false, ◌&&◌, eqb, [], ◌∷◌, length, get_or, drop, sym, refl, ap, ◌∙◌, inl, inr, eq-eqb, eqb-true}
 use mathlib.Core.Option.{some}
 use Rattle.std.proofs.lemmas.List.{drop_more, drop_all}
 use Rattle.hol.specs.Base.{Word, same_word}

@@ -1,11 +1,10 @@
 -- A node that is added: its number stands for what it is made of, and all older numbers and marks stay.
-use Rattle.std.proofs.Common.{◌≡◌, ℕ, zero, suc, ◌+◌, ◌≤◌, true, ◌≢◌, ◌⊎◌, List, [], ◌∷◌, length, Some, None, Option as Answer, sym, refl, ap, ◌∙◌, subst, inl, inr, le_of_suc-le-suc, eq-or-lt_of_le, arith, eq-eqb}
+use Rattle.std.proofs.Common.{◌≡◌, ℕ, zero, suc, ◌≤◌, ◌≢◌, ◌⊎◌, List, ◌∷◌, length, Some, None, Option as Answer, sym, refl, ap, ◌∙◌, subst, inl, inr, le_of_suc-le-suc, eq-or-lt_of_le, arith, eq-eqb}
 use mathlib.Core.Option.{Option, some, none}
 use Rattle.store.specs.Builds as builds
 use Rattle.store.specs.State.{Contents, Keeps, Grows}
 use Rattle.nodes.specs.declared.table.Nodes.{Nodes}
 use Rattle.nodes.specs.declared.node.Node.{Node}
-use Rattle.nodes.specs.Kinds.{first_is_node}
 use Rattle.nodes.specs.Table.{rows, Puts}
 use Rattle.nodes.specs.Items.{Item, contents, tree_size}
 use Rattle.nodes.specs.Meaning.{made, mean, items, held, state_in, state_of, IsMade}

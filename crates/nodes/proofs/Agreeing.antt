@@ -1,6 +1,6 @@
 -- Two numbers with nodes: they stand for the same if their nodes agree and the parts stand for the same; and only then.
-use Rattle.std.proofs.Common.{◌≡◌, ℕ, suc, ◌<◌, ◌≤◌, true, false, eqb, ◌≢◌, ◌⊎◌, List, [], ◌∷◌, length, Some, None, Option as Answer, sym, refl, ap, ◌∙◌, subst, inl, inr, arith}
-use mathlib.Core.Option.{Option, some, none}
+use Rattle.std.proofs.Common.{◌≡◌, ℕ, ◌<◌, ◌≤◌, true, false, eqb, ◌≢◌, ◌⊎◌, List, [], ◌∷◌, length, Some, None, Option as Answer, sym, refl, ap, ◌∙◌, subst, inl, inr, arith}
+use mathlib.Core.Option.{Option, some}
 use Rattle.hol.specs.Base.{Word, bind, guard}
 use Rattle.hol.specs.Syntax.{Ty, Tys, Tm}
 use Rattle.store.specs.State.{Contents}
@@ -13,10 +13,10 @@ use Rattle.nodes.specs.Table.{look}
 use Rattle.nodes.specs.Items.{Item, nil, ty, tm, contents, tree_size}
 use Rattle.nodes.specs.Meaning.{made, mean, items}
 use Rattle.nodes.specs.Comparing.{Agree, Same, OneLeft, TwoLeft}
-use Rattle.nodes.proofs.Made.{Made, m_byte, m_tyvar, m_tyapp, m_tys, m_free, m_bound, m_const, m_app, m_lam, m_tms, bind_inv}
+use Rattle.nodes.proofs.Made.{Made, m_byte, m_tyvar, m_tyapp, m_tys, m_free, m_bound, m_const, m_app, m_lam, m_tms}
 use Rattle.nodes.proofs.Readings.{item-held, of_word, of_types, of_terms, word-item, types-item, terms-item}
 use Rattle.nodes.proofs.Rows.{look_new, look_old}
-use Rattle.nodes.proofs.Numbers.{items_new, items_old, newest, Opened, opened}
+use Rattle.nodes.proofs.Numbers.{items_new, items_old, newest, opened}
 
 -- WHAT IS MADE depends on what the parts stand for
 made_agree : (f g : ℕ → Option Item) (k : Kind) (x y v w : ℕ) → (first_is_node k ≡ true → f x ≡ g v) → (first_is_node k ≡ false → x ≡ v)

@@ -1,7 +1,6 @@
 -- Calls that build, one after another; and what is said of the number built, said in another way.
-use mathlib.Core.Option.{some}
-use Rattle.std.proofs.Common.{◌≡◌, ℕ, ◌+◌, ◌<◌, ◌≤◌, Some, None, Option as Answer, refl, ◌∙◌, arith}
-use Rattle.store.specs.Builds.{Builds, Made, Full}
+use Rattle.std.proofs.Common.{ℕ, ◌+◌, ◌≤◌, Some, None, Option as Answer, refl, ◌∙◌, arith}
+use Rattle.store.specs.Builds.{Builds}
 use Rattle.store.specs.State.{Contents, State, Keeps, Grows}
 
 pub grows_none : (s : State) → Grows 0 s s

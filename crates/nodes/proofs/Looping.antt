@@ -1,9 +1,8 @@
 -- The loop that compares: what holds at each turn, what falls with it, and what it says at its end.
-use Rattle.std.proofs.Common.{◌≡◌, ℕ, zero, suc, ◌+◌, ◌-◌, ◌*◌, ◌^◌, ◌<◌, ◌≤◌, ◌≢◌, List, length, sym, refl, ap, ◌∙◌, subst, add-one, arith}
-use mathlib.Core.Option.{Option, some}
+use Rattle.std.proofs.Common.{◌≡◌, ℕ, suc, ◌+◌, ◌-◌, ◌*◌, ◌^◌, ◌<◌, ◌≤◌, ◌≢◌, List, length, sym, refl, ap, ◌∙◌, subst, add-one, arith}
 use native.Mathlib.Nat.{one-le-pow}
 use Rattle.hol.specs.Base.{bind}
-use Rattle.store.specs.State.{Contents, Keeps, Stays}
+use Rattle.store.specs.State.{Keeps, Stays}
 use Rattle.nodes.specs.declared.pair.Pair.{Pair}
 use Rattle.nodes.specs.Comparing.{Same, OneLeft, TwoLeft}
 use Rattle.nodes.specs.Items.{Item, as_word, as_type, as_types, as_term, as_terms, contents, Holds, Alike}

@@ -1,14 +1,13 @@
 -- Names: the empty one, and one more byte before a name.
-use Rattle.std.proofs.Common.{◌≡◌, ℕ, suc, ◌+◌, ◌-◌, ◌<◌, ◌≤◌, List, [], ◌∷◌, length, get_or, drop, sym, ap, ◌∙◌, arith, drop-cons, lt-ltb}
+use Rattle.std.proofs.Common.{◌≡◌, ℕ, suc, ◌-◌, ◌<◌, ◌≤◌, List, [], ◌∷◌, length, get_or, drop, sym, ap, ◌∙◌, arith, drop-cons, lt-ltb}
 use mathlib.Core.Option.{some}
 use lib.Seq.{drop-length}
 use Rattle.hol.specs.Base.{Word, bind}
 use Rattle.hol.specs.Syntax.{tyvar, tnil}
 use Rattle.store.specs.State.{State, Grows}
 use Rattle.nodes.specs.declared.kind.Kind.TheVariants.{Byte, TypeVariable}
-use Rattle.nodes.specs.declared.table.Nodes.{Nodes}
-use Rattle.nodes.specs.Items.{Item, nil, name, ty, as_word, as_types, as_terms, contents}
-use Rattle.nodes.specs.Meaning.{items, held, IsMade}
+use Rattle.nodes.specs.Items.{name, ty, as_word, as_types, as_terms}
+use Rattle.nodes.specs.Meaning.{held, IsMade}
 use Rattle.nodes.specs.Table.{rows}
 use Rattle.nodes.proofs.Growing.{grows_none, grows_on}
 use Rattle.nodes.proofs.Made.{made_at, m_byte, m_tyvar}

@@ -1,9 +1,9 @@
 -- What numbers stand for: older numbers stay, a number's node makes it from smaller numbers.
-use Rattle.std.proofs.Common.{◌≡◌, ℕ, zero, suc, ◌+◌, ◌<◌, ◌≤◌, Bool, true, false, cond, eqb, ◌≢◌, ◌⊎◌, List, [], ◌∷◌, length, Some, None, Option as Answer, sym, refl, ap, ◌∙◌, subst, inl, inr, arith, eq-eqb, ne_eqb, eqb-true}
+use Rattle.std.proofs.Common.{◌≡◌, ℕ, suc, ◌<◌, ◌≤◌, Bool, true, false, eqb, ◌≢◌, ◌⊎◌, List, [], ◌∷◌, length, Some, None, Option as Answer, sym, refl, ap, ◌∙◌, inl, inr, arith, eq-eqb, ne_eqb, eqb-true}
 use mathlib.Core.Option.{Option, some, none}
 use borrow.Author.Tests.{eqb-false}
-use Rattle.hol.specs.Base.{Word, bind, guard}
-use Rattle.hol.specs.Syntax.{Ty, Tys, tnil, tcons, Tm}
+use Rattle.hol.specs.Base.{Word}
+use Rattle.hol.specs.Syntax.{Ty, Tys, Tm}
 use Rattle.store.specs.State.{Contents}
 use Rattle.nodes.specs.declared.kind.Kind.{Kind}
 use Rattle.nodes.specs.declared.node.Node.{Node}
@@ -11,8 +11,7 @@ use Rattle.nodes.specs.Kinds.{first_is_node}
 use Rattle.nodes.specs.Table.{look}
 use Rattle.nodes.specs.Items.{Item, nil, contents, tree_size}
 use Rattle.nodes.specs.Meaning.{made, mean, items}
-use Rattle.nodes.proofs.Made.{Made, m_byte, m_tyvar, m_tyapp, m_tys, m_free, m_bound, m_const, m_app, m_lam, m_tms, bind_inv, guard_inv, some_inj, to_made, made_of}
-use Rattle.nodes.proofs.Readings.{item-held, holds-item}
+use Rattle.nodes.proofs.Made.{Made, m_byte, m_tyvar, m_tyapp, m_tys, m_free, m_bound, m_const, m_app, m_lam, m_tms, bind_inv, guard_inv, some_inj, to_made}
 use Rattle.nodes.proofs.Rows.{look_new, look_old}
 
 decided : (b : Bool) → (b ≡ true) ⊎ (b ≡ false)

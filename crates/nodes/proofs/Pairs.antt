@@ -1,5 +1,5 @@
 -- Pairs of numbers in words: what stands there after one more was kept, and what they weigh.
-use Rattle.std.proofs.Common.{◌≡◌, ℕ, zero, suc, ◌+◌, ◌*◌, ◌^◌, ◌<◌, ◌≤◌, List, length, get_or, set, sym, refl, ap, ◌∙◌, le_of_suc-le-suc, pow-suc, arith, length-set, get_or-set_other, get_or-set_same}
+use Rattle.std.proofs.Common.{◌≡◌, ℕ, zero, suc, ◌+◌, ◌*◌, ◌^◌, ◌<◌, ◌≤◌, List, length, get_or, set, refl, ◌∙◌, le_of_suc-le-suc, pow-suc, arith, length-set, get_or-set_other, get_or-set_same}
 use native.Mathlib.Nat.{one-le-pow, pow-le-pow_right}
 use Rattle.nodes.specs.Table.{rows}
 use Rattle.nodes.proofs.Rows.{rows-set}

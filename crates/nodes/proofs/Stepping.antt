@@ -1,6 +1,6 @@
 -- Comparing step by step: what holds while pairs are still to be compared.
-use Rattle.std.proofs.Common.{◌≡◌, ℕ, zero, suc, ◌+◌, ◌-◌, ◌*◌, ◌<◌, ◌≤◌, true, false, ◌⊎◌, List, length, sym, refl, ap, ◌∙◌, inl, inr, le_of_suc-le-suc, eq-or-lt_of_le, arith}
-use mathlib.Core.Option.{Option, some}
+use Rattle.std.proofs.Common.{◌≡◌, ℕ, suc, ◌+◌, ◌*◌, ◌<◌, ◌≤◌, ◌⊎◌, List, length, sym, ap, ◌∙◌, inl, inr, le_of_suc-le-suc, eq-or-lt_of_le, arith}
+use mathlib.Core.Option.{Option}
 use Rattle.nodes.specs.declared.pair.Pair.{Pair}
 use Rattle.nodes.specs.Items.{Item}
 use Rattle.nodes.specs.Comparing.{Same, OneLeft, TwoLeft}

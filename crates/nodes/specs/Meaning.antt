@@ -1,5 +1,5 @@
 -- What the nodes of a table stand for.
-use Rattle.std.specs.Prelude.{◌≡◌, ℕ, suc, ◌+◌, ◌<◌, Bool, true, false, cond, List, [], ◌∷◌, length, Some, None, Option as Answer, ◌==◌, nat_lt}
+use Rattle.std.specs.Prelude.{◌≡◌, ℕ, suc, Bool, true, false, cond, List, [], ◌∷◌, length, Some, None, Option as Answer, ◌==◌, nat_lt}
 use Rattle.std.proofs.Math.Option.{Option, some, none}
 use Rattle.hol.specs.Base.{Word, bind, guard}
 use Rattle.hol.specs.Syntax.{Ty, Tys, Tm, tyvar, tyapp, fvar, bvar, const, app, lam}

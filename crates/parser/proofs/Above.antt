@@ -1,5 +1,5 @@
 -- A call above a frame: what the frame holds is kept.
-use Rattle.std.proofs.Common.{◌≡◌, ℕ, ◌-◌, ◌≤◌, List, length, take, sym, refl, ap, ◌∙◌, arith, take-take}
+use Rattle.std.proofs.Common.{◌≡◌, ℕ, ◌-◌, List, length, take, sym, ap, ◌∙◌, arith, take-take}
 use Rattle.stack.specs.Frames.{held, capacity, Within}
 use Rattle.stack.specs.declared.frame.Frame.{Frame}
 use Rattle.stack.proofs.Words.{above-length}

@@ -4,14 +4,14 @@ use mathlib.Core.Option.{Option, some, none}
 use Rattle.hol.specs.Base.{Word, bind}
 use Rattle.hol.specs.Syntax.{Ty, Tm, bvar, app, lam}
 use Rattle.hol.specs.Text.{Token, opens, closes, word, Sexp, Sexps, atom, list, nil, cons, two_of, read_type, read_lam, read_term, index_of}
-use Rattle.reader.specs.Flat.{flat, flats, cost, costs, depth, depths}
+use Rattle.reader.specs.Flat.{flat, flats, cost, costs, depths}
 use Rattle.reader.proofs.Streams.{flat_word, flat-opens, flat-closes, flat_empty}
 use Rattle.store.specs.State.{Contents, State, Grows}
 use Rattle.store.specs.Builds.{Made, Full, IsBound}
 use Rattle.store.proofs.Growth.{grows_same}
 use Rattle.parser.specs.Scope.{Names}
-use Rattle.parser.specs.Parts.{sign, Bound, WholeRead, FunctionNext, BodyNext, NoTerm}
-use Rattle.parser.specs.Machine.{Path, root, func, arg, body, scope, alone, applied, finish, after, owed, Point, down, lost, up, failed, outcome, weight, code, Holds, holds_func, holds_body, At, at_down, at_lost, at_up, at_fail, load, Moved, Short}
+use Rattle.parser.specs.Parts.{sign, WholeRead, FunctionNext, BodyNext, NoTerm}
+use Rattle.parser.specs.Machine.{Path, root, func, arg, body, scope, alone, applied, finish, after, owed, Point, down, lost, up, failed, weight, code, Holds, holds_func, holds_body, At, at_down, at_lost, at_up, at_fail, load, Moved, Short}
 use Rattle.parser.specs.declared.turn.Binder.{Binder}
 use Rattle.parser.specs.declared.turn.Form.TheVariants.{Application, Lambda}
 use Rattle.parser.specs.declared.turn.Turn.TheVariants.{Down, Up, Fail}

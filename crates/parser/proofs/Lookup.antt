@@ -1,5 +1,5 @@
 -- The names of the λs around, looked through from the innermost.
-use Rattle.std.proofs.Common.{◌≡◌, ℕ, ◌+◌, Bool, true, false, cond, ◌⊎◌, List, [], ◌∷◌, sym, refl, ap, ◌∙◌, inl, inr}
+use Rattle.std.proofs.Common.{◌≡◌, ℕ, ◌+◌, true, false, cond, List, [], ◌∷◌, sym, refl, ap, ◌∙◌, inl, inr}
 use mathlib.Core.Option.{some, none}
 use Rattle.hol.specs.Base.{Word, same_word}
 use Rattle.hol.specs.Text.{index_of}

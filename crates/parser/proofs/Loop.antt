@@ -1,14 +1,14 @@
 -- The loop that reads a term: from one turn to the next.
-use Rattle.std.proofs.Common.{◌≡◌, ℕ, ◌+◌, ◌*◌, ◌<◌, ◌≤◌, ◌⊎◌, List, [], ◌∷◌, ◌++◌, length, None, Ok, sym, refl, ap, ◌∙◌, inl, inr, arith}
-use mathlib.Core.Option.{Option, some, none}
+use Rattle.std.proofs.Common.{◌≡◌, ℕ, ◌+◌, ◌≤◌, List, [], ◌∷◌, ◌++◌, None, Ok, sym, refl, ◌∙◌, inl, inr, arith}
+use mathlib.Core.Option.{Option, none}
 use Rattle.hol.specs.Syntax.{Tm}
 use Rattle.hol.proofs.Tools.{none_some}
 use Rattle.hol.specs.Text.{Token, closes, Sexp, read_term}
 use Rattle.reader.specs.Flat.{flat, cost, depth}
-use Rattle.store.specs.State.{Contents, State, Grows}
+use Rattle.store.specs.State.{State, Grows}
 use Rattle.store.proofs.Growth.{grows_same, grows_on, grows-more}
 use Rattle.parser_types.specs.Reads.{Read, Unread, Absent}
-use Rattle.parser.specs.Machine.{Path, root, Point, down, lost, ended, failed, outcome, weight, Holds, holds_root, At, at_down, at_lost, at_end, at_fail, Moved, Short}
+use Rattle.parser.specs.Machine.{root, Point, down, lost, outcome, weight, holds_root, At, at_down, at_lost, at_end, at_fail, Moved, Short}
 use Rattle.parser.specs.declared.turn.Turn.{Turn}
 use Rattle.parser.specs.declared.turn.Turn.TheVariants.{Down, End, Fail}
 

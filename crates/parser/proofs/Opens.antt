@@ -1,14 +1,14 @@
 -- How a bracket begins: by its first word.
-use Rattle.std.proofs.Common.{◌≡◌, ℕ, suc, ◌+◌, ◌*◌, ◌<◌, ◌≤◌, true, false, ◌⊎◌, List, [], ◌∷◌, ◌++◌, length, get_or, sym, refl, ap, ◌∙◌, inl, inr, arith}
-use mathlib.Core.Option.{Option, some, none}
+use Rattle.std.proofs.Common.{◌≡◌, ℕ, suc, ◌*◌, ◌<◌, ◌≤◌, false, ◌⊎◌, List, [], ◌∷◌, ◌++◌, length, get_or, sym, refl, ap, ◌∙◌, inl, inr, arith}
+use mathlib.Core.Option.{Option, none}
 use Rattle.hol.specs.Base.{Word, same_word}
 use Rattle.hol.specs.Syntax.{Tm}
-use Rattle.hol.specs.Text.{Token, opens, closes, word, Sexp, Sexps, atom, list, nil, cons, read_free, read_const, read_lam, read_term}
+use Rattle.hol.specs.Text.{Token, closes, word, Sexps, atom, list, nil, cons, read_term}
 use Rattle.hol.proofs.Tools.{decided}
 use Rattle.hol.proofs.Equality.{word_eq}
-use Rattle.reader.specs.Flat.{flat, flats, cost, costs}
+use Rattle.reader.specs.Flat.{flats, costs}
 use Rattle.reader.proofs.Streams.{inside-word}
-use Rattle.store.specs.State.{State, Grows}
+use Rattle.store.specs.State.{State}
 use Rattle.store.proofs.Growth.{grows_same, grows-more}
 use Rattle.parser_types.specs.Reads.{Read, Unread}
 use Rattle.parser.specs.Parts.{sign, Bound, Unbound, WholeRead, FunctionNext, BodyNext, NoTerm}

@@ -1,10 +1,9 @@
 -- A name and a type; a free variable; a constant.
-use Rattle.std.proofs.Common.{◌≡◌, ℕ, ◌+◌, ◌*◌, ◌<◌, ◌≤◌, ◌⊎◌, List, [], ◌∷◌, ◌++◌, length, sym, refl, ap, ◌∙◌, inl, inr, append_assoc, arith}
+use Rattle.std.proofs.Common.{◌≡◌, ℕ, ◌+◌, ◌≤◌, List, ◌∷◌, ◌++◌, length, sym, refl, ap, ◌∙◌, inl, inr, append_assoc, arith}
 use mathlib.Core.Option.{Option, some, none}
 use Rattle.hol.specs.Base.{Word, bind}
-use Rattle.hol.specs.Syntax.{Ty, Tm, fvar, const, lam}
-use Rattle.hol.specs.Text.{Token, opens, closes, word, Sexp, Sexps, atom, list, nil, cons, word_of, read_type, read_types, read_free, read_const, read_lam}
-use Rattle.hol.proofs.Tools.{none_some}
+use Rattle.hol.specs.Syntax.{Tm, fvar, const}
+use Rattle.hol.specs.Text.{Token, closes, Sexp, Sexps, atom, list, nil, cons, read_type, read_types, read_free, read_const, read_lam}
 use Rattle.reader.specs.Flat.{flat, flats, cost, costs}
 use Rattle.reader.proofs.Streams.{inside-word, inside-closes}
 use Rattle.store.specs.State.{State, Grows}

@@ -1,5 +1,5 @@
 -- The stacks' words and what they hold.
-use Rattle.std.proofs.Common.{◌≡◌, ℕ, ◌+◌, ◌*◌, ◌<◌, ◌≤◌, List, [], ◌∷◌, length, sym, refl, ap, ◌∙◌, arith}
+use Rattle.std.proofs.Common.{◌≡◌, ℕ, ◌*◌, ◌≤◌, List, ◌∷◌, length, ap, arith}
 use mathlib.Core.Option.{some}
 use Rattle.hol.specs.Base.{Word}
 use Rattle.hol.specs.Syntax.{Ty, Tm}
@@ -7,7 +7,7 @@ use Rattle.hol.specs.Text.{Sexps}
 use Rattle.reader.specs.Flat.{depths}
 use Rattle.store.specs.State.{Contents, Keeps}
 use Rattle.parser.specs.Scope.{Names, no_names, one_name}
-use Rattle.parser.specs.Machine.{Path, root, func, arg, body, scope, owed, code, Holds, holds_root, holds_func, holds_arg, holds_body}
+use Rattle.parser.specs.Machine.{Path, func, arg, body, scope, owed, code, Holds, holds_root, holds_func, holds_arg, holds_body}
 use Rattle.parser.specs.declared.turn.Wait.{Wait}
 use Rattle.parser.specs.declared.turn.Wait.TheVariants.{Function, Argument, Body}
 

@@ -1,17 +1,17 @@
 -- The moves up with a term, to what waits for it.
-use Rattle.std.proofs.Common.{◌≡◌, ℕ, suc, ◌+◌, ◌*◌, ◌<◌, ◌≤◌, ◌⊎◌, List, [], ◌∷◌, ◌++◌, length, Some, None, Option, sym, refl, ap, ◌∙◌, inl, inr, append_assoc, arith}
-use mathlib.Core.Option.{some, none}
+use Rattle.std.proofs.Common.{◌≡◌, ℕ, ◌+◌, ◌<◌, List, ◌∷◌, length, Some, None, Option, sym, refl, ap, ◌∙◌, inl, inr, append_assoc, arith}
+use mathlib.Core.Option.{some}
 use Rattle.hol.specs.Base.{Word, bind}
-use Rattle.hol.specs.Syntax.{Ty, Tm, app, lam}
+use Rattle.hol.specs.Syntax.{Tm, app, lam}
 use Rattle.hol.specs.Text.{Token, closes, Sexp, Sexps, nil, cons, read_term}
-use Rattle.reader.specs.Flat.{flat, flats, costs, depths}
+use Rattle.reader.specs.Flat.{flat, flats}
 use Rattle.reader.proofs.Streams.{inside-closes}
-use Rattle.store.specs.State.{Contents, State, Grows}
+use Rattle.store.specs.State.{State}
 use Rattle.store.specs.Builds.{Made, Full, IsApp, IsLam}
 use Rattle.store.proofs.Growth.{grows_same}
 use Rattle.stack.specs.Frames.{held, Pops}
 use Rattle.stack.specs.declared.frame.Frame.{Frame}
-use Rattle.parser.specs.Machine.{Path, root, func, arg, body, scope, alone, applied, finish, after, owed, Point, down, lost, up, ended, failed, outcome, weight, code, Holds, holds_root, holds_func, holds_arg, holds_body, At, at_down, at_lost, at_up, at_end, at_fail, load, Moved, Short}
+use Rattle.parser.specs.Machine.{Path, arg, scope, alone, applied, finish, after, Point, down, lost, up, ended, failed, weight, code, Holds, holds_root, holds_func, holds_arg, holds_body, At, at_down, at_lost, at_up, at_end, at_fail, load, Moved, Short}
 use Rattle.parser.specs.declared.turn.Turn.TheVariants.{Down, Up, End, Fail}
 use Rattle.parser.specs.declared.turn.Wait.{Wait}
 use Rattle.parser.specs.declared.turn.Wait.TheVariants.{Function, Argument, Body}

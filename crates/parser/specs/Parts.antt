@@ -1,5 +1,5 @@
 -- What the parts of a bracket are read as.
-use Rattle.std.specs.Prelude.{◌≡◌, ℕ, suc, ◌+◌, ◌*◌, ◌<◌, Bool, true, false, ◌⊎◌, List, [], ◌∷◌, ◌++◌, length, Some, None, codes, Option, Result, ◌≢◌}
+use Rattle.std.specs.Prelude.{◌≡◌, ℕ, suc, ◌+◌, ◌*◌, ◌<◌, Bool, true, false, ◌⊎◌, List, ◌∷◌, ◌++◌, length, Some, None, codes, Option, Result, ◌≢◌}
 use Rattle.std.proofs.Math.Option.{some, none}
 use Rattle.hol.specs.Base.{Word}
 use Rattle.hol.specs.Syntax.{Ty, Tm}

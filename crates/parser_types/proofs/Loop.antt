@@ -1,16 +1,16 @@
 -- The loop that reads a list of types: from one turn to the next.
-use Rattle.std.proofs.Common.{◌≡◌, ℕ, ◌+◌, ◌*◌, ◌<◌, ◌≤◌, List, [], ◌∷◌, ◌++◌, length, sym, refl, ap, ◌∙◌, arith}
+use Rattle.std.proofs.Common.{◌≡◌, ℕ, ◌+◌, ◌≤◌, List, [], ◌∷◌, ◌++◌, sym, refl, ◌∙◌, arith}
 use mathlib.Core.Option.{Option, some, none}
 use Rattle.hol.specs.Base.{bind}
 use Rattle.hol.specs.Syntax.{Tys}
 use Rattle.hol.specs.Text.{Token, closes, Sexps, read_types}
 use Rattle.reader.specs.Flat.{flats, costs}
-use Rattle.store.specs.State.{Contents, State, Grows}
+use Rattle.store.specs.State.{State, Grows}
 use Rattle.store.proofs.Growth.{grows_same, grows_on, grows-more}
 use Rattle.parser_types.specs.Reads.{Read, Unread}
-use Rattle.parser_types.specs.Machine.{Path, root, Point, reading, closing, ended, failed, outcome, weight, Holds, holds_root, At, at_next, at_close, at_end, at_fail, Moved}
+use Rattle.parser_types.specs.Machine.{root, Point, reading, outcome, weight, holds_root, At, at_next, at_end, at_fail, Moved}
 use Rattle.parser_types.specs.declared.turn.Turn.{Turn}
-use Rattle.parser_types.specs.declared.turn.Turn.TheVariants.{Next, Close, End, Fail}
+use Rattle.parser_types.specs.declared.turn.Turn.TheVariants.{Next, End, Fail}
 
 -- On the way from s₀, where the trees us were ahead, then the bracket that closes, then qs: what comes out is what is read of us, and
 -- what was paid and what is still to be paid is no more than they cost.

@@ -1,5 +1,5 @@
 -- Answers that are refused for want of room.
-use Rattle.std.proofs.Common.{◌≡◌, ℕ, Bool, true, false, is_err, Some, Ok, Err, Result, refl, arith}
+use Rattle.std.proofs.Common.{◌≡◌, ℕ, true, is_err, Some, Ok, Err, Result, refl, arith}
 use Rattle.hol.proofs.Tools.{clash}
 use Rattle.store.specs.State.{State}
 use Rattle.parser_types.specs.Reads.{Absent}

@@ -1,16 +1,16 @@
 -- One type: a word, or a bracket with a name and types.
-use Rattle.std.proofs.Common.{◌≡◌, ℕ, ◌+◌, ◌*◌, ◌<◌, Bool, true, false, cond, ◌⊎◌, List, [], ◌∷◌, ◌++◌, length, sym, refl, ap, ◌∙◌, inl, inr, arith}
-use mathlib.Core.Option.{some, none}
+use Rattle.std.proofs.Common.{◌≡◌, ℕ, ◌+◌, ◌*◌, ◌<◌, false, ◌⊎◌, List, [], ◌∷◌, ◌++◌, length, sym, ap, ◌∙◌, inl, inr, arith}
+use mathlib.Core.Option.{some}
 use Rattle.hol.specs.Base.{Word, bind}
-use Rattle.hol.specs.Syntax.{tyapp, Tys, tnil}
+use Rattle.hol.specs.Syntax.{tyapp, tnil}
 use Rattle.hol.specs.Theory.{is_tyvar}
-use Rattle.hol.specs.Text.{Token as Sign, opens, closes, word, Sexp, Sexps, atom, list, nil, cons, read_type, read_types}
+use Rattle.hol.specs.Text.{Token as Sign, opens, closes, word, Sexp, Sexps, atom, list, cons, read_type, read_types}
 use Rattle.reader.specs.Flat.{flat, flats, cost, costs}
 use Rattle.reader.proofs.Streams.{flat_word, flat-opens, inside-word}
 use Rattle.reader.specs.Next.{stands, stream, Gives}
 use Rattle.reader.specs.declared.tokens.Token.{Token}
 use Rattle.reader.specs.declared.tokens.Tokens.{Tokens}
-use Rattle.store.specs.State.{State, Grows}
+use Rattle.store.specs.State.{State}
 use Rattle.store.specs.Builds.{Made, Full, IsWord, IsTyapp}
 use Rattle.store.proofs.Growth.{grows_same, grows_on, grows-more}
 use Rattle.parser_types.specs.Reads.{Read, Unread, IsWordType, Named, Unnamed, NameShort}

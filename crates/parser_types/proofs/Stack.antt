@@ -1,11 +1,11 @@
 -- The stack's words and what they hold.
-use Rattle.std.proofs.Common.{◌≡◌, ℕ, ◌+◌, ◌*◌, ◌<◌, ◌≤◌, List, [], ◌∷◌, length, sym, refl, ap, ◌∙◌, arith}
+use Rattle.std.proofs.Common.{◌≡◌, ℕ, ◌+◌, ◌*◌, ◌≤◌, List, [], ◌∷◌, length, ap, arith}
 use mathlib.Core.Option.{some}
 use Rattle.hol.specs.Base.{Word}
 use Rattle.hol.specs.Syntax.{Ty}
 use Rattle.hol.specs.Text.{Sexps}
 use Rattle.store.specs.State.{Contents, Keeps}
-use Rattle.parser_types.specs.Machine.{Path, root, inside, owed, code, Holds, holds_root, holds_type, holds_name}
+use Rattle.parser_types.specs.Machine.{Path, inside, owed, code, Holds, holds_root, holds_type, holds_name}
 use Rattle.parser_types.specs.declared.turn.Mark.{Mark}
 use Rattle.parser_types.specs.declared.turn.Mark.TheVariants.{Bracket, Argument}
 

@@ -1,17 +1,17 @@
 -- One lemma for each move of the machine that reads a list of types.
-use Rattle.std.proofs.Common.{◌≡◌, ℕ, ◌+◌, ◌*◌, ◌<◌, ◌≤◌, Bool, true, false, not, ◌⊎◌, List, [], ◌∷◌, ◌++◌, length, sym, refl, ap, ◌∙◌, inl, inr, arith}
+use Rattle.std.proofs.Common.{◌≡◌, ℕ, ◌+◌, ◌*◌, ◌<◌, Bool, true, false, not, List, [], ◌∷◌, ◌++◌, length, sym, refl, ap, ◌∙◌, arith}
 use mathlib.Core.Option.{Option, some, none}
 use Rattle.hol.specs.Base.{Word, bind, guard}
 use Rattle.hol.specs.Syntax.{Ty, tyapp, Tys, tnil, tcons}
 use Rattle.hol.specs.Theory.{is_tyvar}
-use Rattle.hol.specs.Text.{Token, opens, closes, word, Sexp, Sexps, atom, list, nil, cons, read_type_word, read_type, read_type_list, read_types}
-use Rattle.reader.specs.Flat.{flats, cost, costs}
+use Rattle.hol.specs.Text.{Token, opens, closes, word, Sexps, atom, list, nil, cons, read_type_word, read_type_list, read_types}
+use Rattle.reader.specs.Flat.{flats, costs}
 use Rattle.reader.proofs.Streams.{inside-closes, inside-word, inside-opens, inside_empty}
-use Rattle.store.specs.State.{Contents, Keeps, State, Grows}
-use Rattle.store.specs.Builds.{Made, Full, IsWord, IsTyapp, IsTypes}
+use Rattle.store.specs.State.{Contents, State}
+use Rattle.store.specs.Builds.{Made, Full, IsTyapp, IsTypes}
 use Rattle.store.proofs.Growth.{grows_same}
 use Rattle.parser_types.specs.Reads.{IsWordType, Named, Unnamed, NameShort}
-use Rattle.parser_types.specs.Machine.{Path, root, inside, before, finish, after, owed, Point, reading, closing, ended, failed, outcome, weight, code, Holds, holds_root, holds_type, holds_name, At, at_next, at_close, at_end, at_fail, Moved}
+use Rattle.parser_types.specs.Machine.{Path, root, inside, before, finish, after, Point, reading, closing, ended, failed, outcome, weight, code, Holds, holds_root, holds_type, holds_name, At, at_next, at_close, at_end, at_fail, Moved}
 use Rattle.parser_types.specs.declared.turn.Turn.TheVariants.{Next, Close, End, Fail}
 use Rattle.parser_types.specs.declared.turn.Mark.{Mark}
 use Rattle.parser_types.specs.declared.turn.Mark.TheVariants.{Bracket, Argument}

@@ -2,8 +2,8 @@
 use Rattle.std.specs.Prelude.{◌≡◌, ℕ, ◌+◌, ◌*◌, ◌<◌, ◌≤◌, ◌⊎◌, List, [], ◌∷◌, ◌++◌, length, Result}
 use Rattle.std.proofs.Math.Option.{Option, some, none}
 use Rattle.hol.specs.Base.{Word, bind}
-use Rattle.hol.specs.Syntax.{Ty, tyapp, Tys, tnil, tcons}
-use Rattle.hol.specs.Text.{Token, closes, Sexps, nil, cons, read_types}
+use Rattle.hol.specs.Syntax.{Ty, tyapp, Tys, tcons}
+use Rattle.hol.specs.Text.{Token, closes, Sexps, read_types}
 use Rattle.reader.specs.Flat.{flats, costs}
 use Rattle.store.specs.State.{Contents, State, Grows}
 use Rattle.stack.specs.Answers.{Answers}

@@ -1,5 +1,5 @@
 -- What a call that reads from a stream of tokens says of its answer.
-use Rattle.std.specs.Prelude.{◌≡◌, ℕ, ◌+◌, ◌*◌, ◌<◌, true, false, ◌⊎◌, List, [], ◌∷◌, length, Some, None, Ok, Option, Result}
+use Rattle.std.specs.Prelude.{◌≡◌, ℕ, ◌+◌, ◌*◌, ◌<◌, true, false, ◌⊎◌, List, ◌∷◌, length, Some, None, Ok, Option, Result}
 use Rattle.std.proofs.Math.Option.{Option as Maybe, some, none}
 use Rattle.hol.specs.Base.{Word}
 use Rattle.hol.specs.Theory.{is_tyvar}

@@ -1,5 +1,5 @@
 -- What a number stands for once its node was added, by the kind of the node.
-use Rattle.std.proofs.Common.{◌≡◌, ℕ, List, [], ◌∷◌}
+use Rattle.std.proofs.Common.{◌≡◌, ℕ, []}
 use mathlib.Core.Option.{some}
 use Rattle.hol.specs.Syntax.{tyvar, tyapp, fvar, bvar, const, app, lam}
 use Rattle.store.specs.Builds.{IsTyvar, IsTyapp, IsTypes, IsFree, IsBound, IsConst, IsApp, IsLam, IsTerms}

@@ -1,5 +1,5 @@
 -- What a view says: the node that was read, shown, is how its number's item is made.
-use Rattle.std.proofs.Common.{◌≡◌, ℕ, Bool, true, List, [], ◌∷◌, Some, None, Option as Answer, sym, refl, ◌∙◌, subst, arith}
+use Rattle.std.proofs.Common.{◌≡◌, ℕ, Bool, true, List, [], ◌∷◌, Some, None, Option as Answer, refl, arith}
 use mathlib.Core.Option.{Option, some}
 use Rattle.hol.specs.Base.{Word}
 use Rattle.hol.specs.Syntax.{Ty, Tys, tnil, tcons, Tm}
@@ -14,7 +14,7 @@ use Rattle.nodes.specs.declared.node.Node.{Node}
 use Rattle.nodes.specs.Items.{Item, nil, name, ty, tys, tm, tms, contents, Holds}
 use Rattle.nodes.specs.Meaning.{Shows}
 use Rattle.nodes.proofs.Agreeing.{no_nil}
-use Rattle.nodes.proofs.Made.{Made, m_byte, m_tyvar, m_tyapp, m_tys, m_free, m_bound, m_const, m_app, m_lam, m_tms, to_made, some_inj}
+use Rattle.nodes.proofs.Made.{Made, m_byte, m_tyvar, m_tyapp, m_tys, m_free, m_bound, m_const, m_app, m_lam, m_tms, to_made}
 use Rattle.nodes.proofs.Readings.{of_types, of_terms, holds-item, types-item, terms-item}
 use Rattle.plain.specs.Shown.{name_shown, type_shown, types_shown, term_shown, terms_shown}
 

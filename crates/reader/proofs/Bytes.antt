@@ -1,5 +1,5 @@
 -- A byte does to the depth and the count what its tokens do to the stack that they stand for.
-use Rattle.std.proofs.Common.{◌≡◌, ℕ, suc, ◌+◌, ◌-◌, Bool, true, false, cond, not, ◌||◌, eqb, List, [], ◌∷◌, ◌++◌, length, sym, refl, append_assoc, arith}
+use Rattle.std.proofs.Common.{◌≡◌, ℕ, suc, ◌-◌, Bool, true, false, cond, not, ◌||◌, eqb, List, [], ◌∷◌, ◌++◌, length, sym, refl, append_assoc, arith}
 use mathlib.Core.Option.{Option}
 use lib.Dec.{eqb-suc-zero}
 use Rattle.hol.specs.Text.{Token, opens, closes, word, Mode as Place, gap, in_word, comment, Turn, turn, turns, is_blank}

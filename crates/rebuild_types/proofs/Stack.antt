@@ -1,11 +1,9 @@
 -- The stack's words and the path that they hold; bounds on paths.
-use Rattle.std.proofs.Common.{◌≡◌, ℕ, ◌+◌, ◌*◌, ◌≤◌, List, ◌∷◌, length, ap, ◌∙◌, arith}
+use Rattle.std.proofs.Common.{◌≡◌, ℕ, ◌+◌, ◌*◌, ◌≤◌, List, ◌∷◌, length, ap, arith}
 use mathlib.Core.Option.{some}
 use Rattle.hol.specs.Base.{Word}
 use Rattle.hol.specs.Syntax.{Ty, tyapp, Tys, tcons, TySubst, subst_tys}
 use Rattle.store.specs.State.{Contents, Keeps}
-use Rattle.stack.specs.Frames.{Same, capacity}
-use Rattle.stack.specs.declared.frame.Frame.{Frame}
 use Rattle.rebuild_types.specs.Machine.{Sort, one, many, Of, nodes, item, nodes_item, Is, Path, root, args_of, head_of, tail_of, plug, finished, waiting, code, Holds, holds_root, holds_args, holds_head, holds_tail}
 use Rattle.rebuild_types.specs.declared.turn.Wait.{Wait}
 use Rattle.rebuild_types.specs.declared.turn.Wait.TheVariants.{Arguments, Head, Tail}

@@ -1,5 +1,5 @@
 -- One lemma for each move of the machine that builds types anew.
-use Rattle.std.proofs.Common.{◌≡◌, ℕ, ◌+◌, ◌*◌, ◌<◌, ◌≤◌, ◌⊎◌, List, ◌∷◌, length, Some, None, sym, refl, ap, ◌∙◌, inl, inr, arith}
+use Rattle.std.proofs.Common.{◌≡◌, ℕ, ◌+◌, ◌<◌, ◌≤◌, List, ◌∷◌, length, Some, None, sym, refl, ap, ◌∙◌, inl, inr, arith}
 use mathlib.Core.Option.{some, none}
 use Rattle.hol.specs.Base.{Word}
 use Rattle.hol.specs.Syntax.{Ty, tyvar, tyapp, Tys, tnil, tcons, TySubst, find_ty, subst_ty, subst_tys}
@@ -8,7 +8,7 @@ use Rattle.store.specs.State.{Contents, State, Grows, Stays}
 use Rattle.store.specs.Builds.{Made, Full, IsTyapp, IsTypes}
 use Rattle.store.specs.Views.{ViewVariable, ViewNamed, ViewTypes}
 use Rattle.rebuild_types.specs.Entries.{Finds}
-use Rattle.rebuild_types.specs.Machine.{Sort, Of, item, nodes_item, Is, Path, args_of, head_of, tail_of, plug, code, Holds, holds_root, holds_args, holds_head, holds_tail, Point, down, up, end, outcome, spent, weight, moves, At, at_type, at_types, at_up, at_end, Moved, Stuck}
+use Rattle.rebuild_types.specs.Machine.{Sort, Of, item, nodes_item, Is, Path, args_of, head_of, tail_of, plug, code, Holds, holds_root, holds_args, holds_head, holds_tail, Point, down, up, end, outcome, spent, At, at_type, at_types, at_up, at_end, Moved, Stuck}
 use Rattle.rebuild_types.specs.declared.turn.Turn.TheVariants.{DownType, DownTypes, Up, End}
 use Rattle.rebuild_types.specs.declared.turn.Wait.{Wait}
 use Rattle.rebuild_types.specs.declared.turn.Wait.TheVariants.{Arguments, Head, Tail}

@@ -1,6 +1,6 @@
 -- A frame while several words are pushed onto it.
-use Rattle.std.proofs.Common.{◌≡◌, ℕ, zero, suc, ◌+◌, ◌-◌, ◌<◌, ◌≤◌, Bool, true, false, List, [], ◌∷◌, ◌++◌, length, get_or, take, sym, refl, ap, ◌∙◌, arith}
-use Rattle.stack.specs.Frames.{above, held, onto, capacity, Within, Same, Pushes}
+use Rattle.std.proofs.Common.{◌≡◌, ℕ, ◌+◌, ◌-◌, ◌<◌, ◌≤◌, Bool, true, false, List, [], ◌∷◌, ◌++◌, length, get_or, take, sym, refl, ap, ◌∙◌, arith}
+use Rattle.stack.specs.Frames.{held, onto, capacity, Within, Same, Pushes}
 use Rattle.stack.specs.declared.frame.Frame.{Frame}
 use Rattle.std.proofs.lemmas.List.{take_more}
 use Rattle.stack.proofs.Words.{above-length}

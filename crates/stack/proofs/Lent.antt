@@ -1,6 +1,6 @@
 -- A frame over lent words while a loop takes words off it and pushes others.
-use Rattle.std.proofs.Common.{◌≡◌, ℕ, ◌+◌, ◌-◌, ◌<◌, ◌≤◌, Bool, true, false, List, [], ◌∷◌, length, sym, refl, ap, ◌∙◌, arith}
-use Rattle.stack.specs.Frames.{held, capacity, Within, Same, Pushes}
+use Rattle.std.proofs.Common.{◌≡◌, refl, ◌∙◌, arith}
+use Rattle.stack.specs.Frames.{capacity, Within, Same}
 use Rattle.stack.specs.declared.frame.Frame.{Frame}
 
 -- the frame f has become g

@@ -1,6 +1,6 @@
 -- The words of a frame, `above ws b n`: how many they are, and what a write at the top and a step of the top do to them. Over plain
 -- lists and numbers.
-use Rattle.std.proofs.Common.{◌≡◌, ℕ, zero, suc, ◌+◌, ◌-◌, ◌<◌, ◌≤◌, ◌≢◌, List, [], ◌∷◌, length, get_or, take, set, sym, refl, ap, ◌∙◌, add-one, arith, get_or-set_other, get_or-take, get_or-set_same}
+use Rattle.std.proofs.Common.{◌≡◌, ℕ, zero, suc, ◌+◌, ◌-◌, ◌<◌, ◌≤◌, ◌≢◌, List, ◌∷◌, length, get_or, take, set, sym, refl, ap, ◌∙◌, arith, get_or-set_other, get_or-take, get_or-set_same}
 use Rattle.stack.specs.Frames.{above, held, Within, Same}
 use Rattle.stack.specs.declared.frame.Frame.{Frame}
 

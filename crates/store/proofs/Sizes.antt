@@ -1,5 +1,5 @@
 -- Nodes against sizes: what a type or a term takes in a store is less than twice its size. No typing is needed.
-use Rattle.std.proofs.Common.{ℕ, ◌+◌, ◌*◌, ◌≤◌, List, [], ◌∷◌, arith}
+use Rattle.std.proofs.Common.{◌+◌, ◌*◌, ◌≤◌, List, [], ◌∷◌, arith}
 use mathlib.Core.Option.{Option, some, none}
 use Rattle.hol.specs.Syntax.{Ty, tyvar, tyapp, Tys, tnil, tcons, Tm, fvar, bvar, const, app, lam}
 use Rattle.hol.specs.Theory.{Theory, const_at}

@@ -1,5 +1,5 @@
 -- What the newest declaration of a name says is what the definitions look up.
-use Rattle.std.proofs.Common.{◌≡◌, ℕ, Bool, true, false, cond, ◌&&◌, ◌⊎◌, List, [], ◌∷◌, sym, refl, ap, ◌∙◌, inl, inr}
+use Rattle.std.proofs.Common.{◌≡◌, ℕ, Bool, true, false, cond, ◌&&◌, [], ◌∷◌, sym, refl, ap, ◌∙◌, inl, inr}
 use mathlib.Core.Option.{Option, some, none}
 use Rattle.hol.specs.Base.{bind, Word, same_word}
 use Rattle.hol.specs.Syntax.{Ty, Seq, w_bool, w_fun, w_eq, w_choice}
@@ -9,8 +9,7 @@ use Rattle.hol.specs.Kernel.{Definition as Defined, find_def}
 use Rattle.hol.proofs.Tools.{decided, clash, both, some_same, none_some}
 use Rattle.store.specs.State.{Contents}
 use Rattle.signature.specs.Finds.{Found}
-use Rattle.theory.specs.declared.row.Kind.{Kind}
-use Rattle.theory.specs.declared.row.Kind.TheVariants.{TypeName, Constant, Definition, Axiom, Theorem}
+use Rattle.theory.specs.declared.row.Kind.TheVariants.{Axiom}
 use Rattle.theory.specs.declared.row.Row.{Row}
 use Rattle.theory.specs.declared.row.Wanted.{Wanted}
 use Rattle.theory.specs.declared.row.Wanted.TheVariants.{Types, Constants, Definitions, Sequents}

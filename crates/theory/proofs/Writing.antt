@@ -6,8 +6,8 @@ use Rattle.theory.specs.declared.row.Kind.{Kind}
 use Rattle.theory.specs.declared.row.Kind.TheVariants.{TypeName, Constant, Definition, Axiom, Theorem}
 use Rattle.theory.specs.declared.row.Row.{Row}
 use Rattle.theory.specs.declared.table.Decls.{Decls}
-use Rattle.theory.specs.Rows.{kind_code, kind_of, row_of, row_at, Says, Table}
-use Rattle.theory.specs.Knows.{Knows, Added}
+use Rattle.theory.specs.Rows.{kind_code, kind_of, row_at, Says, Table}
+use Rattle.theory.specs.Knows.{Added}
 
 -- a kind is found again by its code
 pub kind_again : (k : Kind) → kind_of (kind_code k) ≡ k

@@ -1,5 +1,5 @@
 -- Which theory a table stands for, and what adding a declaration does to it.
-use Rattle.std.specs.Prelude.{◌≡◌, ℕ, ◌+◌, ◌*◌, ◌<◌, List, [], ◌∷◌, length, Ok, Err, Result}
+use Rattle.std.specs.Prelude.{◌≡◌, ◌+◌, ◌*◌, ◌<◌, ◌∷◌, length, Ok, Err, Result}
 use Rattle.std.proofs.Math.Option.{some}
 use Rattle.stack.specs.declared.frame.NoRoom.{NoRoom}
 use Rattle.hol.specs.Syntax.{tyvar, fun, bool, w_a}

@@ -1,5 +1,5 @@
 -- What is looked for in a table, and what is found.
-use Rattle.std.specs.Prelude.{◌≡◌, ℕ, Bool, cond, ◌&&◌, ◌||◌, List, [], ◌∷◌, ◌==◌}
+use Rattle.std.specs.Prelude.{◌≡◌, ℕ, Bool, cond, ◌&&◌, ◌||◌, [], ◌∷◌, ◌==◌}
 use Rattle.std.proofs.Math.Option.{Option, some, none}
 use Rattle.hol.specs.Base.{Word, same_word}
 use Rattle.hol.specs.Syntax.{Seq}

@@ -1,8 +1,7 @@
 -- Which declarations the words of a table stand for.
-use Rattle.std.specs.Prelude.{◌≡◌, ℕ, ◌+◌, ◌*◌, Bool, cond, List, [], ◌∷◌, length, ◌==◌, slice_index}
+use Rattle.std.specs.Prelude.{◌≡◌, ℕ, ◌+◌, ◌*◌, cond, List, [], ◌∷◌, length, ◌==◌, slice_index}
 use Rattle.std.proofs.Math.Option.{some}
 use Rattle.hol.specs.Base.{Word}
-use Rattle.hol.specs.Syntax.{Seq}
 use Rattle.hol.specs.Theory.{Decl, d_type, d_const, d_def, d_axiom, d_thm, Theory}
 use Rattle.store.specs.State.{Contents}
 use Rattle.theory.specs.declared.row.Kind.{Kind}

@@ -1,10 +1,10 @@
 -- One call of a store after another: what was built stands, and what was spent adds up.
-use Rattle.std.proofs.Common.{◌≡◌, ℕ, ◌<◌, Bool, true, Some, None, codes, Option, sym, refl, arith}
+use Rattle.std.proofs.Common.{◌≡◌, ℕ, Bool, true, Some, None, codes, Option, arith}
 use mathlib.Core.Option.{some}
 use Rattle.store.specs.State.{State, Grows, Stays}
 use Rattle.store.specs.Builds.{Made, Full, Builds, IsLetter, IsWord, IsFree, IsApp}
 use Rattle.store.proofs.Growth.{grows_on, grows-more, keeps_on}
-use Rattle.trial.specs.Trials.{self_applied, Applied, Short, AppliedSays, TwiceSays}
+use Rattle.trial.specs.Trials.{self_applied, Applied, Short, AppliedSays}
 
 module _ {s₀ s₁ s₂ s₃ : State} where
   -- no room for the variable

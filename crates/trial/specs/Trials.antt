@@ -2,7 +2,7 @@
 use Rattle.std.specs.Prelude.{◌≡◌, ℕ, ◌<◌, Bool, true, Some, None, codes, Option}
 use Rattle.std.proofs.Math.Option.{some}
 use Rattle.hol.specs.Syntax.{Tm, fvar, app, tyvar}
-use Rattle.store.specs.State.{State, Grows, Stays}
+use Rattle.store.specs.State.{State, Grows}
 
 -- x x, for the free variable x of type 'a
 abbrev pub self_applied : Tm

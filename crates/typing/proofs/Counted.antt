@@ -1,9 +1,8 @@
 -- Whether a list has so many types: one off both, until one of them is at its end.
-use Rattle.std.proofs.Common.{◌≡◌, ℕ, zero, suc, ◌+◌, ◌-◌, Bool, true, false, eqb, Some, sym, refl, ap, ◌∙◌, arith}
+use Rattle.std.proofs.Common.{◌≡◌, ℕ, zero, suc, ◌+◌, ◌-◌, false, eqb, Some, sym, refl, ap, ◌∙◌, arith}
 use mathlib.Core.Option.{some}
 use lib.Dec.{eqb-suc-zero, eqb-suc-suc, eqb-zero-suc}
-use Rattle.hol.specs.Syntax.{Tys, tnil, tcons, count_tys}
-use Rattle.hol.proofs.Tools.{some_same}
+use Rattle.hol.specs.Syntax.{Tys, tnil, count_tys}
 use Rattle.store.specs.State.{Contents}
 use Rattle.store.specs.Views.{ViewTypes, TypesSays}
 use Rattle.store.specs.declared.view.ListView.{ListView}

@@ -1,13 +1,11 @@
 -- Function types: built from their two types, and used up by an application.
-use Rattle.std.proofs.Common.{◌≡◌, ℕ, ◌+◌, ◌<◌, Bool, true, false, List, Some, None, sym, refl, ap, ◌∙◌, arith}
+use Rattle.std.proofs.Common.{◌≡◌, ℕ, ◌<◌, true, false, Some, None, refl, arith}
 use mathlib.Core.Option.{Option as Found, some, none}
-use Rattle.hol.specs.Base.{Word}
-use Rattle.hol.specs.Syntax.{Ty, Tys, tnil, tcons, tyapp, w_fun, fun, same_ty, arrow, Arrow}
+use Rattle.hol.specs.Syntax.{Ty, tnil, tcons, w_fun, fun, same_ty, arrow, Arrow}
 use Rattle.hol.specs.Theory.{app_ty}
-use Rattle.store.specs.State.{Contents, State, Stays}
+use Rattle.store.specs.State.{Contents, State}
 use Rattle.store.specs.Builds.{Made, Full, IsTypes, IsTyapp}
 use Rattle.store.proofs.Growth.{grows_on}
-use Rattle.signature.specs.Finds.{Finds}
 use Rattle.walk.specs.Parts.{Like, IsFunctionType}
 use Rattle.walk.specs.declared.parts.FunctionType.{FunctionType}
 

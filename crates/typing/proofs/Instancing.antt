@@ -1,5 +1,5 @@
 -- A type with types for its type variables: what the loops answer, and what the definitions say.
-use Rattle.std.proofs.Common.{◌≡◌, ℕ, ◌+◌, ◌-◌, ◌*◌, ◌/◌, ◌<◌, ◌≤◌, Bool, true, false, ◌&&◌, eqb, ◌⊎◌, List, [], length, take, Some, None, sym, refl, ap, ◌∙◌, subst, inl, inr, arith, eqb→eq, length-take-le}
+use Rattle.std.proofs.Common.{◌≡◌, ℕ, ◌+◌, ◌-◌, ◌*◌, ◌/◌, ◌<◌, ◌≤◌, Bool, true, false, ◌&&◌, eqb, ◌⊎◌, List, [], length, take, Some, None, sym, refl, ap, ◌∙◌, inl, inr, arith, eqb→eq, length-take-le}
 use mathlib.Core.Option.{some, none}
 use Rattle.hol.specs.Base.{Word}
 use Rattle.hol.specs.Syntax.{Ty, tyvar, tyapp, Tys, count_tys, tyvars_ty, subst_ty, zip}
@@ -8,7 +8,6 @@ use Rattle.store.specs.Measures.{nodes_ty, nodes_tys}
 use Rattle.store.specs.State.{State, Stays}
 use Rattle.store.specs.Builds.{Made}
 use Rattle.store.proofs.Growth.{grows_on, grows-more}
-use Rattle.signature.specs.Finds.{Finds}
 use Rattle.walk.specs.TypeVars.{Short}
 use Rattle.walk.specs.Standing.{Stand, done, more, Names}
 use Rattle.walk.proofs.Lengths.{type_length}

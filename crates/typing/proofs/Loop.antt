@@ -1,9 +1,9 @@
 -- The loop of the machine that finds the type of a term: what every turn keeps, and the number of moves to come as a function of the
 -- words.
-use Rattle.std.proofs.Common.{◌≡◌, ℕ, ◌+◌, ◌-◌, ◌*◌, ◌<◌, ◌≤◌, cond, eqb, ◌⊎◌, List, [], ◌∷◌, length, Some, None, sym, refl, ap, ◌∙◌, inl, inr, arith}
-use mathlib.Core.Option.{Option, some, none}
+use Rattle.std.proofs.Common.{◌≡◌, ℕ, ◌+◌, ◌-◌, ◌*◌, ◌<◌, ◌≤◌, cond, eqb, List, [], ◌∷◌, length, Some, None, sym, refl, ◌∙◌, inl, inr, arith}
+use mathlib.Core.Option.{some}
 use Rattle.hol.specs.Base.{option}
-use Rattle.hol.specs.Syntax.{Ty, Tm, fvar, bvar, const, app, lam}
+use Rattle.hol.specs.Syntax.{Tm}
 use Rattle.hol.specs.Theory.{Theory, type_of}
 use Rattle.store.specs.Measures.{nodes_tm}
 use Rattle.store.specs.State.{Contents, State, Grows}
@@ -13,7 +13,7 @@ use Rattle.stack.specs.declared.frame.Frame.{Frame}
 use Rattle.stack.proofs.Lent.{same-capacity}
 use Rattle.typing.specs.Built.{types_built}
 use Rattle.typing.specs.Typed.{Typed}
-use Rattle.typing.specs.Machine.{widest, Path, root, func_of, arg_of, body_of, pending, code, Holds, holds_root, holds_func, holds_arg, holds_body, Point, down, up, end, untyped, outcome, to_build, weight, moves, At, at_down, at_up, at_end, at_untyped, Moved, Cramped, Stuck}
+use Rattle.typing.specs.Machine.{widest, Path, root, func_of, arg_of, body_of, pending, code, Holds, holds_root, holds_func, holds_arg, holds_body, Point, down, outcome, to_build, weight, moves, At, at_down, at_up, at_end, at_untyped, Moved, Cramped, Stuck}
 use Rattle.typing.specs.declared.turn.Turn.{Turn}
 use Rattle.typing.specs.declared.turn.Turn.TheVariants.{Down, Up, End, Untyped}
 use Rattle.typing.specs.declared.turn.Wait.TheVariants.{Function}

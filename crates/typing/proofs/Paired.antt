@@ -3,10 +3,10 @@ use Rattle.std.proofs.Common.{◌≡◌, ℕ, suc, ◌+◌, ◌-◌, ◌*◌, �
 use mathlib.Core.Option.{some}
 use Rattle.std.proofs.lemmas.List.{drop_more, length-set}
 use Rattle.hol.specs.Base.{Word}
-use Rattle.hol.specs.Syntax.{Ty, Tys, tnil, tcons, count_tys, zip, TySubst}
+use Rattle.hol.specs.Syntax.{Ty, Tys, tnil, tcons, count_tys, zip}
 use Rattle.store.specs.State.{Contents}
 use Rattle.store.specs.Views.{ViewTypes}
-use Rattle.walk.specs.Standing.{Names, more, done}
+use Rattle.walk.specs.Standing.{Names, more}
 use Rattle.rebuild_types.specs.Entries.{TyEntries, nothing, entry}
 
 -- Of the names ns the first `at` stand in entries among the words ms. Whatever words ls come of these, once the entries for the others

@@ -1,24 +1,24 @@
 -- A move that is refused lacks words of the stack, of scratch or of the scope, or nodes; and a frame that is handed on.
-use Rattle.std.proofs.Common.{◌≡◌, ℕ, ◌+◌, ◌-◌, ◌*◌, ◌<◌, ◌≤◌, ◌⊎◌, List, [], ◌∷◌, length, Some, None, Option, sym, refl, ap, ◌∙◌, inl, inr, arith}
+use Rattle.std.proofs.Common.{◌≡◌, ℕ, ◌+◌, ◌-◌, ◌*◌, ◌<◌, ◌≤◌, List, [], ◌∷◌, length, Some, None, Option, sym, refl, ap, ◌∙◌, inl, inr, arith}
 use mathlib.Core.Option.{some}
-use Rattle.hol.specs.Syntax.{Ty, Tm, fvar, bvar, const, app, lam}
+use Rattle.hol.specs.Syntax.{Ty, Tm, const}
 use Rattle.hol.specs.Theory.{Theory, const_at}
 use Rattle.store.specs.Measures.{nodes_ty, nodes_tys, nodes_tm}
 use Rattle.store.specs.State.{Contents, State}
-use Rattle.store.specs.Views.{ViewFree, ViewConstant, ViewApply, ViewLambda}
-use Rattle.stack.specs.Frames.{Within, Same, held, capacity, Pops}
+use Rattle.store.specs.Views.{ViewFree, ViewConstant, ViewLambda}
+use Rattle.stack.specs.Frames.{Within, held, Pops}
 use Rattle.stack.specs.declared.frame.Frame.{Frame}
 use Rattle.stack.proofs.Lent.{same_trans}
 use Rattle.stack.proofs.Words.{unmoved}
 use Rattle.typing.specs.Built.{types_built}
 use Rattle.typing.specs.Lending.{Goes}
 use Rattle.typing.specs.Typed.{Tight, nodes_of, declared}
-use Rattle.typing.specs.Machine.{widest, Path, scope, unbuilt, around, code, Holds, holds_root, holds_func, holds_arg, holds_body, Point, down, up, weight, to_build, At, at_down, at_up, Stuck}
+use Rattle.typing.specs.Machine.{Path, scope, around, code, Holds, holds_root, holds_func, holds_arg, holds_body, Point, down, up, At, at_down, at_up, Stuck}
 use Rattle.typing.specs.declared.turn.Turn.TheVariants.{Down, Up}
 use Rattle.typing.specs.declared.turn.Wait.{Wait}
-use Rattle.typing.specs.declared.turn.Wait.TheVariants.{Function, Argument, Body}
+use Rattle.typing.specs.declared.turn.Wait.TheVariants.{Argument, Body}
 use Rattle.typing.proofs.Sizes.{nodes_positive, declared-fits}
-use Rattle.typing.proofs.Stack.{stack_length, scope-length, Top, top, top-func, top-arg, top-body}
+use Rattle.typing.proofs.Stack.{stack_length, scope-length, Top, top, top-arg, top-body}
 
 -- FRAMES
 pub stands_still : {f : Frame} → Within f → Goes f f

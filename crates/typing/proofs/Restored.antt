@@ -1,5 +1,5 @@
 -- A stack that is lent twice, one call after the other; and answers that are refused.
-use Rattle.std.proofs.Common.{◌≡◌, ℕ, ◌-◌, ◌≤◌, true, List, length, take, is_err, Ok, Err, Result, sym, refl, ap, ◌∙◌, true≢false, arith}
+use Rattle.std.proofs.Common.{◌≡◌, ℕ, ◌-◌, ◌≤◌, true, List, length, is_err, Ok, Err, Result, sym, ◌∙◌, true≢false, arith}
 use Rattle.stack.specs.Answers.{Answers}
 use Rattle.stack.specs.Frames.{Restores}
 use Rattle.stack.specs.declared.frame.NoRoom.{NoRoom}

@@ -1,5 +1,5 @@
 -- The n-th word of a frame, the newest first.
-use Rattle.std.proofs.Common.{◌≡◌, ℕ, zero, suc, ◌+◌, ◌-◌, ◌<◌, ◌≤◌, List, get_or, sym, refl, ap, ◌∙◌, arith}
+use Rattle.std.proofs.Common.{◌≡◌, ℕ, zero, suc, ◌+◌, ◌-◌, ◌<◌, ◌≤◌, List, get_or, refl, ap, ◌∙◌, arith}
 use mathlib.Core.Option.{some, none}
 use Rattle.hol.specs.Base.{nth}
 use Rattle.stack.specs.Frames.{above}

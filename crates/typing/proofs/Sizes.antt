@@ -1,5 +1,5 @@
 -- What typing a term builds is less than twice the term's size; and no constant's type is larger than the widest.
-use Rattle.std.proofs.Common.{ℕ, ◌+◌, ◌*◌, ◌≤◌, max, cond, List, [], ◌∷◌, inl, inr, arith}
+use Rattle.std.proofs.Common.{◌+◌, ◌*◌, ◌≤◌, max, cond, List, [], ◌∷◌, inl, inr, arith}
 use mathlib.Core.Option.{Option, some, none}
 use Rattle.hol.specs.Base.{Word, option, nth, same_word}
 use Rattle.hol.specs.Syntax.{Ty, tyvar, tyapp, Tm, fvar, bvar, const, app, lam, w_eq, w_choice}

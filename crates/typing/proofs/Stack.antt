@@ -1,9 +1,9 @@
 -- The words of the machine's stack and of its scope, and the path that they hold.
-use Rattle.std.proofs.Common.{◌≡◌, ℕ, zero, suc, ◌+◌, ◌*◌, ◌≤◌, List, [], ◌∷◌, length, sym, refl, ap, ◌∙◌, arith}
+use Rattle.std.proofs.Common.{◌≡◌, ℕ, zero, suc, ◌*◌, ◌≤◌, List, ◌∷◌, length, sym, refl, ap, ◌∙◌, arith}
 use mathlib.Core.Option.{Option, some, none}
 use Rattle.hol.specs.Base.{bind, nth}
 use Rattle.hol.specs.Syntax.{Ty, Tm, arrow, Arrow}
-use Rattle.hol.specs.Theory.{Theory, app_ty, type_in}
+use Rattle.hol.specs.Theory.{Theory}
 use Rattle.hol.proofs.Tools.{some_same, none_some}
 use Rattle.store.specs.State.{Contents, Keeps}
 use Rattle.typing.specs.Machine.{Path, root, func_of, arg_of, body_of, scope, plug, around, code, Holds, holds_root, holds_func, holds_arg, holds_body}

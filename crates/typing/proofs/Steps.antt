@@ -1,18 +1,18 @@
 -- One lemma for each move of the machine that finds the type of a term.
-use Rattle.std.proofs.Common.{◌≡◌, ℕ, ◌+◌, ◌*◌, ◌<◌, ◌≤◌, Bool, true, false, ◌⊎◌, List, [], ◌∷◌, length, Some, None, sym, refl, ap, ◌∙◌, inl, inr, arith}
-use mathlib.Core.Option.{Option, some, none}
-use Rattle.hol.specs.Base.{Word, bind, guard, nth}
-use Rattle.hol.specs.Syntax.{Ty, Tm, fvar, bvar, const, app, lam, fun}
+use Rattle.std.proofs.Common.{◌≡◌, ℕ, ◌≤◌, true, false, List, [], ◌∷◌, length, Some, None, sym, refl, ap, ◌∙◌, arith}
+use mathlib.Core.Option.{some, none}
+use Rattle.hol.specs.Base.{nth}
+use Rattle.hol.specs.Syntax.{Ty, Tm, bvar, fun}
 use Rattle.hol.specs.Theory.{Theory, ok_ty, const_at, app_ty, type_in}
-use Rattle.store.specs.Measures.{nodes_ty, nodes_tm}
-use Rattle.store.specs.State.{Contents, State, Grows, Stays}
+use Rattle.store.specs.Measures.{nodes_tm}
+use Rattle.store.specs.State.{State, Grows, Stays}
 use Rattle.store.specs.Builds.{Made}
 use Rattle.store.specs.Views.{ViewFree, ViewConstant, ViewApply, ViewLambda}
 use Rattle.store.proofs.Growth.{grows_same}
 use Rattle.signature.specs.Finds.{Finds}
 use Rattle.typing.specs.Built.{types_built}
 use Rattle.typing.specs.Typed.{Typed, nodes_of}
-use Rattle.typing.specs.Machine.{Path, root, func_of, arg_of, body_of, scope, plug, unbuilt, around, pending, code, Holds, holds_root, holds_func, holds_arg, holds_body, Point, down, up, end, untyped, outcome, to_build, weight, moves, At, at_down, at_up, at_end, at_untyped, Moved}
+use Rattle.typing.specs.Machine.{Path, func_of, arg_of, body_of, scope, plug, code, Holds, holds_root, holds_func, holds_arg, holds_body, Point, down, up, end, untyped, At, at_down, at_up, at_end, at_untyped, Moved}
 use Rattle.typing.specs.declared.turn.Turn.TheVariants.{Down, Up, End, Untyped}
 use Rattle.typing.specs.declared.turn.Wait.{Wait}
 use Rattle.typing.specs.declared.turn.Wait.TheVariants.{Function, Argument, Body}

@@ -1,5 +1,5 @@
 -- How many nodes typing a term builds: the type of each constant, and a function type for each λ.
-use Rattle.std.specs.Prelude.{ℕ, ◌+◌, List, [], ◌∷◌}
+use Rattle.std.specs.Prelude.{ℕ, ◌+◌, List, ◌∷◌}
 use Rattle.hol.specs.Base.{option}
 use Rattle.hol.specs.Syntax.{Ty, Tm, fvar, bvar, const, app, lam}
 use Rattle.hol.specs.Theory.{Theory, const_at}

@@ -1,13 +1,11 @@
 -- The machine that finds the type of a term: where it stands, and what one move does.
-use Rattle.std.specs.Prelude.{◌≡◌, ℕ, ◌+◌, ◌*◌, ◌<◌, ◌≤◌, max, ◌⊎◌, List, [], ◌∷◌, Result}
+use Rattle.std.specs.Prelude.{◌≡◌, ℕ, ◌+◌, ◌*◌, ◌<◌, ◌≤◌, max, ◌⊎◌, List, [], ◌∷◌}
 use Rattle.std.proofs.Math.Option.{Option, some, none}
 use Rattle.hol.specs.Base.{bind, option}
 use Rattle.hol.specs.Syntax.{Ty, Tm, fun}
 use Rattle.hol.specs.Theory.{Theory, const_of_decl, app_ty, type_in}
 use Rattle.store.specs.Measures.{nodes_ty, nodes_tm}
 use Rattle.store.specs.State.{Contents, State, Grows}
-use Rattle.stack.specs.Answers.{Answers}
-use Rattle.stack.specs.declared.frame.NoRoom.{NoRoom}
 use Rattle.typing.specs.Built.{types_built}
 use Rattle.typing.specs.Typed.{Tight}
 use Rattle.typing.specs.declared.turn.Turn.{Turn}

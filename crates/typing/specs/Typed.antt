@@ -1,5 +1,5 @@
 -- A type that was found by building, or that there is none; and what was short where there is no answer.
-use Rattle.std.specs.Prelude.{◌≡◌, ℕ, ◌*◌, ◌<◌, Bool, ◌⊎◌, [], length, Option, ◌==◌}
+use Rattle.std.specs.Prelude.{◌≡◌, ℕ, ◌*◌, ◌<◌, ◌⊎◌, [], length, Option, ◌==◌}
 use Rattle.std.proofs.Math.Option.{some}
 use Rattle.std.proofs.Math.Option as maybe
 use Rattle.hol.specs.Base.{Word, option, guard}

@@ -1,5 +1,5 @@
 -- A type or a term adds no more names than it has nodes.
-use Rattle.std.proofs.Common.{◌+◌, ◌≤◌, List, [], length, inl, inr, arith}
+use Rattle.std.proofs.Common.{◌+◌, ◌≤◌, List, length, inl, inr, arith}
 use Rattle.std.proofs.lemmas.List.{length_push}
 use Rattle.hol.specs.Base.{Word, among}
 use Rattle.hol.specs.Syntax.{Ty, tyvar, tyapp, Tys, tnil, tcons, insert, tyvars_ty, tyvars_tys}

@@ -1,10 +1,10 @@
 -- Terms built from parts, node by node.
-use Rattle.std.proofs.Common.{◌≡◌, ℕ, ◌+◌, ◌*◌, ◌<◌, ◌≤◌, sym, refl, ◌∙◌}
+use Rattle.std.proofs.Common.{◌≡◌, ℕ}
 use mathlib.Core.Option.{some}
 use Rattle.hol.specs.Syntax.{Ty, Tm, equal, tnil}
-use Rattle.store.specs.State.{Contents, State, Grows}
+use Rattle.store.specs.State.{State}
 use Rattle.store.specs.Builds.{Made, IsTypes, IsConst, IsApp}
-use Rattle.store.proofs.Growth.{grows_on, keeps_on}
+use Rattle.store.proofs.Growth.{grows_on}
 use Rattle.workspace.specs.Grounds.{Grounded}
 use Rattle.workspace.specs.declared.ground.Ground.{Ground}
 

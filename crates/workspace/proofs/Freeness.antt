@@ -1,5 +1,5 @@
 -- Looking for a free variable in the terms of a list, from the first to the last.
-use Rattle.std.proofs.Common.{◌≡◌, ℕ, ◌+◌, ◌≤◌, Bool, true, false, not, ◌||◌, List, [], sym, refl, ◌∙◌, arith}
+use Rattle.std.proofs.Common.{◌≡◌, ℕ, ◌≤◌, true, false, not, List, [], sym, refl, ◌∙◌, arith}
 use mathlib.Core.Option.{some}
 use Rattle.hol.specs.Base.{Word, any}
 use Rattle.hol.specs.Syntax.{Ty, Tm, free_in}

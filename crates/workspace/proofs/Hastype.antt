@@ -1,5 +1,5 @@
 -- A term has a type if the type that was found is the same.
-use Rattle.std.proofs.Common.{◌≡◌, Bool, false}
+use Rattle.std.proofs.Common.{◌≡◌, false}
 use mathlib.Core.Option.{some, none}
 use Rattle.hol.specs.Syntax.{Ty, Tm, same_ty}
 use Rattle.hol.specs.Theory.{Theory, type_of, has_type}

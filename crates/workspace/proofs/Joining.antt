@@ -1,5 +1,5 @@
 -- The nodes of joined lists.
-use Rattle.std.proofs.Common.{◌≤◌, cond, List, [], ◌∷◌, inl, inr, arith}
+use Rattle.std.proofs.Common.{◌≤◌, List, [], ◌∷◌, inl, inr, arith}
 use Rattle.hol.specs.Syntax.{Tm}
 use Rattle.hol.specs.Kernel.{in_hyps, union}
 use Rattle.hol.proofs.Tools.{decided}

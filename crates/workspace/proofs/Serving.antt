@@ -1,6 +1,6 @@
 -- Answers turned into options: what the flag and the option say together.
-use Rattle.std.proofs.Common.{◌≡◌, ℕ, ◌+◌, ◌-◌, ◌*◌, ◌<◌, ◌≤◌, Bool, true, false, ◌⊎◌, Some, None, Ok, Err, Option, Result, sym, refl, ◌∙◌, inl, inr, arith}
-use mathlib.Core.Option.{Option as Maybe, some, none}
+use Rattle.std.proofs.Common.{◌≡◌, ℕ, ◌+◌, ◌-◌, ◌*◌, ◌<◌, ◌≤◌, Bool, true, false, ◌⊎◌, Some, None, Option, Result, sym, ◌∙◌, inl, inr, arith}
+use mathlib.Core.Option.{Option as Maybe, some}
 use Rattle.hol.specs.Syntax.{Ty, w_eq}
 use Rattle.hol.specs.Theory.{Theory}
 use Rattle.store.specs.State.{Contents, State, Grows}
@@ -8,7 +8,6 @@ use Rattle.store.specs.Builds.{Builds, Made, Full}
 use Rattle.store.proofs.Growth.{grows_on, grows-more}
 use Rattle.stack.specs.Answers.{Answers}
 use Rattle.stack.specs.declared.frame.NoRoom.{NoRoom}
-use Rattle.signature.specs.Finds.{Finds}
 use Rattle.typing.specs.Typed.{Tight, Typed}
 use Rattle.typing.specs.Machine.{Cramped, widest}
 use Rattle.typing.proofs.Sizes.{declared-fits}

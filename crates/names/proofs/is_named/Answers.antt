@@ -1,4 +1,3 @@
-use Rattle.std.proofs.Common.{arith}
 use Rattle.names.proofs.Spelling.{start, next, differs, ends}
 use Rattle.names.proofs.is_named.Goals as goal
 

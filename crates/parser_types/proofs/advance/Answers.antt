@@ -1,4 +1,4 @@
-use Rattle.std.proofs.Common.{length, refl, ap, ◌∙◌, inl, inr, arith}
+use Rattle.std.proofs.Common.{length, refl, ap, inl, inr, arith}
 use Rattle.stack.proofs.Words.{unmoved}
 use Rattle.parser_types.proofs.Steps.{no_token, word_read, word-short, word_full, bracket_opened, bracket_short, bracket_full, bracket_unnamed, bracket_closed}
 use Rattle.parser_types.proofs.Refused.{refused}

@@ -1,4 +1,4 @@
-use Rattle.std.proofs.Common.{length, refl, ap, ◌∙◌, inl, inr, arith}
+use Rattle.std.proofs.Common.{length, ap, ◌∙◌, inl, inr, arith}
 use Rattle.stack.proofs.Lent.{same_trans, same-capacity}
 use Rattle.parser_types.proofs.Steps.{list-ended, argument_collected, argument_short, bracket_collected, bracket_refull}
 use Rattle.parser_types.proofs.collect.Goals as goal

@@ -1,4 +1,4 @@
-use Rattle.std.proofs.Common.{sym, refl, ◌∙◌, inl, inr, rules}
+use Rattle.std.proofs.Common.{sym, refl, ◌∙◌, inl, rules}
 use Rattle.reader.proofs.Streams.{flat_empty, flat-closes}
 use Rattle.store.proofs.Growth.{grows_same}
 use Rattle.parser_types.proofs.Refused.{refused}

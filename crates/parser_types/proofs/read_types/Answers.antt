@@ -1,4 +1,4 @@
-use Rattle.std.proofs.Common.{refl, rules}
+use Rattle.std.proofs.Common.{rules}
 use Rattle.reader.specs.Next.{stream}
 use Rattle.stack.proofs.Lent.{lent, moved}
 use Rattle.parser_types.proofs.Loop.{start, next, all_read, none_read}

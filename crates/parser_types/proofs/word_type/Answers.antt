@@ -1,4 +1,4 @@
-use Rattle.std.proofs.Common.{sym, ◌∙◌}
+use Rattle.std.proofs.Common.{sym}
 use Rattle.parser_types.proofs.Single.{plain_type}
 use Rattle.parser_types.proofs.word_type.Goals as goal
 

@@ -1,6 +1,6 @@
 use Rattle.std.proofs.Common.{refl, rules}
 use Rattle.hol.specs.Text.{read_free, read_const}
-use Rattle.parser.specs.declared.turn.Form.TheVariants.{Free, Constant, Application, Lambda}
+use Rattle.parser.specs.declared.turn.Form.TheVariants.{Free, Constant, Lambda}
 use Rattle.parser_types.proofs.Refused.{refused}
 use Rattle.parser.proofs.Opens.{formless, behind_form, form_short, form_read, form_unread, application_next, lambda_next, lambda_none}
 use Rattle.parser.proofs.brackets.open.Goals as goal

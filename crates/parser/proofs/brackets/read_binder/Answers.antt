@@ -1,4 +1,4 @@
-use Rattle.std.proofs.Common.{◌≡◌, ℕ, refl, arith, rules}
+use Rattle.std.proofs.Common.{rules}
 use Rattle.parser_types.proofs.Refused.{refused, refused_absent, some_absent}
 use Rattle.parser.proofs.Parts.{name-short, no_binder_named, type_short, type_unread, type_read}
 use Rattle.parser.proofs.brackets.read_binder.Goals as goal

@@ -1,4 +1,4 @@
-use Rattle.std.proofs.Common.{refl, arith, rules}
+use Rattle.std.proofs.Common.{arith, rules}
 use Rattle.store.proofs.Growth.{grows_same, grows-more}
 use Rattle.parser_types.proofs.Refused.{refused}
 use Rattle.parser.proofs.Parts.{name-short, no_name, no_constant, behind-name, types-short, types_unread, constant_read, constant_short}

@@ -1,5 +1,4 @@
-use Rattle.std.proofs.Common.{rules}
-use Rattle.parser.proofs.Parts.{no_free, free_unread, free_read, free_short}
+use Rattle.parser.proofs.Parts.{no_free, free_unread, free_read}
 use Rattle.parser.proofs.brackets.read_free.Goals as goal
 
 pub returns-in_default : goal.returns-in_default

@@ -1,5 +1,4 @@
-use Rattle.std.proofs.Common.{◌≡◌, ◌-◌, [], arith}
-use Rattle.stack.specs.Frames.{above}
+use Rattle.std.proofs.Common.{◌≡◌, ◌-◌, arith}
 use Rattle.stack.proofs.Words.{popped}
 use Rattle.parser.proofs.Lookup.{start, passed, found, missing}
 use Rattle.parser.proofs.scope.lookup.Goals as goal

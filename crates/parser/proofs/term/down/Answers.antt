@@ -1,5 +1,4 @@
-use Rattle.std.proofs.Common.{◌∷◌, refl, ap, ◌∙◌, inl, inr}
-use Rattle.stack.specs.Frames.{held}
+use Rattle.std.proofs.Common.{◌∷◌, refl, ap, ◌∙◌}
 use Rattle.stack.proofs.Words.{unmoved}
 use Rattle.stack.proofs.Lent.{same_trans, same-capacity}
 use Rattle.parser.specs.Machine.{code}

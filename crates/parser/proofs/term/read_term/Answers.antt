@@ -1,7 +1,6 @@
-use Rattle.std.proofs.Common.{◌≡◌, ◌-◌, length, refl, ap, inl, inr, arith, rules}
+use Rattle.std.proofs.Common.{inl, inr, arith, rules}
 use Rattle.reader.specs.Flat.{depth}
-use Rattle.stack.specs.Frames.{capacity}
-use Rattle.stack.proofs.Lent.{lent, moved, same_trans}
+use Rattle.stack.proofs.Lent.{lent, moved}
 use Rattle.parser_types.proofs.Refused.{refused}
 use Rattle.parser.proofs.Above.{lent_room}
 use Rattle.parser.proofs.Loop.{start, start_lost, next, stuck, term_read, none_read, lost_unread, lost_read, lost_stuck}

@@ -1,5 +1,4 @@
 use Rattle.std.proofs.Common.{refl, ◌∙◌}
-use Rattle.stack.specs.Frames.{held}
 use Rattle.stack.proofs.Words.{unmoved}
 use Rattle.stack.proofs.Lent.{same_trans, same-capacity}
 use Rattle.parser.proofs.Ups.{name_taken, all_done, function_done, function_refull, node-short, argument_unclosed, body_unclosed, argument_done, body-done}

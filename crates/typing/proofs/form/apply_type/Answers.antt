@@ -1,4 +1,4 @@
-use Rattle.std.proofs.Common.{sym, refl, ap, ◌∙◌}
+use Rattle.std.proofs.Common.{sym, ◌∙◌}
 use Rattle.store.proofs.Growth.{stays_same}
 use Rattle.walk.proofs.Compared.{types_compared}
 use Rattle.typing.proofs.Forms.{no_arrow, an_arrow, applied, not_applied}

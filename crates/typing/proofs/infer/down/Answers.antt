@@ -1,4 +1,4 @@
-use Rattle.std.proofs.Common.{length, sym, refl, ap, ◌∙◌, arith}
+use Rattle.std.proofs.Common.{length, sym, refl, ap, ◌∙◌}
 use mathlib.Core.Option.{some}
 use Rattle.store.proofs.Growth.{stays_same}
 use Rattle.stack.specs.Frames.{held, capacity}

@@ -1,4 +1,4 @@
-use Rattle.std.proofs.Common.{sym, refl, ap, ◌∙◌, rules}
+use Rattle.std.proofs.Common.{refl, ◌∙◌, rules}
 use Rattle.typing.proofs.Restored.{answers_refused}
 use Rattle.typing.proofs.Refusals.{stands_still, goes_on}
 use Rattle.typing.proofs.Loop.{set_out, goes, falls, refused, arrives, ends_untyped, going, room}

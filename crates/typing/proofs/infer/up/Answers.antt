@@ -1,4 +1,3 @@
-use Rattle.std.proofs.Common.{[], length, sym, refl, ap, ◌∙◌, arith}
 use Rattle.stack.specs.Frames.{held, capacity}
 use Rattle.stack.proofs.Lent.{same-capacity}
 use Rattle.typing.proofs.Refusals.{stands_still, goes_on, up_stands, function_stands, argument_short, function_short, odd_words, pops_rest}

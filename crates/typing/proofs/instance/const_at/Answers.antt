@@ -1,8 +1,8 @@
-use Rattle.std.proofs.Common.{sym, refl, ap, ◌∙◌, inl, inr}
-use Rattle.store.proofs.Growth.{stays_on, grows-more}
+use Rattle.std.proofs.Common.{sym, refl, ◌∙◌, inl}
+use Rattle.store.proofs.Growth.{stays_on}
 use Rattle.typing.proofs.OkLists.{answers_for}
 use Rattle.typing.proofs.Restored.{restores_on, same-room, still_within}
-use Rattle.typing.proofs.Instancing.{const-instance, const_none, const-room, const_tight, const_typed}
+use Rattle.typing.proofs.Instancing.{const_none, const-room, const_tight, const_typed}
 use Rattle.typing.proofs.instance.const_at.Goals as goal
 
 pub ok_types-requires : goal.ok_types-requires

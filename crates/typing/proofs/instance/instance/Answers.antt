@@ -1,4 +1,4 @@
-use Rattle.std.proofs.Common.{◌≡◌, ◌-◌, ◌*◌, [], length, sym, refl, ap, ◌∙◌, inl, inr, arith}
+use Rattle.std.proofs.Common.{◌≡◌, ◌-◌, ◌*◌, [], sym, ◌∙◌, inl, inr, arith}
 use Rattle.walk.specs.Standing.{done}
 use Rattle.hol.specs.Syntax.{tyvars_ty, zip}
 use Rattle.typing.proofs.Restored.{restores_on, same-room, still_within, answers_refused}

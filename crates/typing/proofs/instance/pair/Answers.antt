@@ -1,4 +1,4 @@
-use Rattle.std.proofs.Common.{sym, refl, ap, ◌∙◌, arith}
+use Rattle.std.proofs.Common.{refl, ◌∙◌, arith}
 use Rattle.typing.proofs.Paired.{begin, not_over, all_paired, next, written_length}
 use Rattle.typing.proofs.instance.pair.Goals as goal
 

@@ -1,4 +1,4 @@
-use Rattle.std.proofs.Common.{sym, refl, ap, ◌∙◌, arith}
+use Rattle.std.proofs.Common.{sym, ap, ◌∙◌, arith}
 use Rattle.store.specs.Measures.{nodes_ty}
 use Rattle.store.proofs.Growth.{stays_on}
 use Rattle.typing.proofs.OkLists.{named_ok, answers_for}

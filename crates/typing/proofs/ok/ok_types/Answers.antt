@@ -1,4 +1,4 @@
-use Rattle.std.proofs.Common.{true, false, ◌∷◌, length, sym, refl, ap, ◌∙◌, arith, rules}
+use Rattle.std.proofs.Common.{true, ◌∷◌, refl, ap, ◌∙◌, arith, rules}
 use Rattle.store.proofs.Growth.{stays_same, stays_on}
 use Rattle.stack.proofs.Lent.{lent, moved, same_trans}
 use Rattle.walk.proofs.Pending.{begin, ended, newest}

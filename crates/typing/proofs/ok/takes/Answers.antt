@@ -1,4 +1,4 @@
-use Rattle.std.proofs.Common.{◌≡◌, false, eqb, sym, refl, ap, ◌∙◌}
+use Rattle.std.proofs.Common.{false, eqb, sym, ap, ◌∙◌}
 use Rattle.hol.specs.Base.{option}
 use Rattle.hol.specs.Syntax.{count_tys}
 use Rattle.typing.proofs.ok.takes.Goals as goal

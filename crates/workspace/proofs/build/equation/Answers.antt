@@ -1,4 +1,4 @@
-use Rattle.std.proofs.Common.{arith, rules}
+use Rattle.std.proofs.Common.{arith}
 use Rattle.store.proofs.Growth.{grows_on}
 use Rattle.workspace.proofs.Serving.{last_made}
 use Rattle.workspace.proofs.Building.{equal-made}

@@ -1,9 +1,8 @@
-use Rattle.std.proofs.Common.{◌≡◌, sym, refl, ◌∙◌, inl, arith, rules}
+use Rattle.std.proofs.Common.{sym, refl, ◌∙◌, inl, arith}
 use Rattle.hyps.proofs.Seeking.{fewer}
 use Rattle.store.proofs.Growth.{stays_on}
 use Rattle.workspace.specs.Space.{passed, failed, untested}
-use Rattle.workspace.proofs.Serving.{lacks_one, lacks_more}
-use Rattle.workspace.proofs.Freeness.{start, ended, found, next, smaller}
+use Rattle.workspace.proofs.Freeness.{ended, found, next, smaller}
 use Rattle.workspace.proofs.lists.free_in_none.Goals as goal
 
 pub view-requires : goal.view-requires

@@ -1,7 +1,7 @@
-use Rattle.std.proofs.Common.{◌≡◌, ◌≤◌, false, inr, arith, rules}
-use Rattle.hol.specs.Kernel.{union, remove}
+use Rattle.std.proofs.Common.{◌≡◌, false, arith, rules}
+use Rattle.hol.specs.Kernel.{remove}
 use Rattle.store.proofs.Growth.{grows_on, grows-more}
-use Rattle.workspace.specs.Space.{space, undone}
+use Rattle.workspace.specs.Space.{undone}
 use Rattle.workspace.proofs.Serving.{rooming, lacks_one, lacks_more, lacks_after}
 use Rattle.workspace.proofs.Joining.{behind}
 use Rattle.workspace.proofs.lists.join_without.Goals as goal

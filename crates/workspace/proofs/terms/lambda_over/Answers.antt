@@ -1,4 +1,4 @@
-use Rattle.std.proofs.Common.{◌≡◌, ◌≤◌, false, inr, arith, rules}
+use Rattle.std.proofs.Common.{◌≡◌, false, inr, arith, rules}
 use Rattle.store.proofs.Growth.{grows_on, grows-more}
 use Rattle.workspace.specs.Space.{undone}
 use Rattle.workspace.proofs.Serving.{keeping, lacks_four, lacks_more}

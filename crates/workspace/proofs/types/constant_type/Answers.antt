@@ -1,4 +1,4 @@
-use Rattle.std.proofs.Common.{◌≡◌, ◌+◌, ◌≤◌, ap, arith, rules}
+use Rattle.std.proofs.Common.{ap, arith, rules}
 use Rattle.typing.specs.Typed.{nodes_of}
 use Rattle.store.proofs.Growth.{grows-more}
 use Rattle.typing.proofs.Sizes.{declared-fits}

@@ -1,4 +1,4 @@
-use Rattle.std.proofs.Common.{◌≡◌, sym, ◌∙◌, arith, rules}
+use Rattle.std.proofs.Common.{sym, ◌∙◌, arith, rules}
 use Rattle.store.proofs.Growth.{grows_on}
 use Rattle.walk.proofs.Compared.{types_compared}
 use Rattle.store.proofs.Growth.{grows-more}

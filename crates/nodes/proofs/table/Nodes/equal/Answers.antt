@@ -1,5 +1,5 @@
 use Rattle.std.proofs.Common.{◌≡◌, ℕ, refl, arith}
-use Rattle.nodes.proofs.Looping.{one_less, fits_one, two, two_less, back_one, back_less, kept-below, stays, alike, differ}
+use Rattle.nodes.proofs.Looping.{one_less, two, two_less, back_one, back_less, kept-below, stays, alike, differ}
 use Rattle.nodes.proofs.table.Nodes.equal.Goals as goal
 
 pub returns-in-Differ : goal.returns-in-Differ

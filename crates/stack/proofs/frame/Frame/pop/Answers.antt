@@ -1,6 +1,6 @@
 use Rattle.std.proofs.Common.{refl, arith}
 use Rattle.stack.proofs.frame.Frame.pop.Goals as goal
-use Rattle.stack.proofs.Words.{popped, unmoved}
+use Rattle.stack.proofs.Words.{popped}
 
 pub returns : goal.returns
 returns c =

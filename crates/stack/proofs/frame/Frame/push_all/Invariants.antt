@@ -1,4 +1,3 @@
-use Rattle.std.proofs.Common.{length}
 use Rattle.stack.proofs.Filling.{Filling}
 use Rattle.stack.proofs.frame.Frame.push_all.Given as goal
 
