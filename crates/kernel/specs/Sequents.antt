@@ -32,7 +32,7 @@ abbrev pub price : Maybe Seq → ℕ
 price o = option o 0 (λ p. 2 * nodes_seq p)
 
 -- A rule with the premises ps in the theory th, with so many words lent, of which the definition gives o: it finds what o is; or it
--- does not fit, and o is none; or it is refused for want of room, and then there were too few words for `need` nodes, or fewer nodes
+-- does not fit, and o is none, and then nothing kept is lost and no more spent than what was built beside; or it is refused for want of room, and then there were too few words for `need` nodes, or fewer nodes
 -- left than what is built beside and the price.
 abbrev pub Gives : Theory → List Seq → (words need built : ℕ) → State → State → Maybe Seq → Bool → Option Sequent → Type 0
-Gives th ps words need built s t o full r = Serves (Lacks words need s.left (built + price o)) (Found th ps built s t) o full r
+Gives th ps words need built s t o full r = Serves (Lacks words need s.left (built + price o)) (Grows built s t) (Found th ps built s t) o full r

@@ -1,6 +1,6 @@
 -- Answers turned into options: what the flag and the option say together.
 use Rattle.std.proofs.Common.{◌≡◌, ℕ, ◌+◌, ◌-◌, ◌*◌, ◌<◌, ◌≤◌, Bool, true, false, ◌⊎◌, Some, None, Option, Result, sym, ◌∙◌, inl, inr, arith}
-use mathlib.Core.Option.{Option as Maybe, some}
+use mathlib.Core.Option.{Option as Maybe, some, none}
 use Rattle.hol.specs.Syntax.{Ty, w_eq}
 use Rattle.hol.specs.Theory.{Theory}
 use Rattle.store.specs.State.{Contents, State, Grows}
@@ -37,15 +37,17 @@ rooming short P r (Some x) f g k e b no₁ yes₁ = done (yes₁ x (rw k.0 at b)
 rooming short P r None f g k e b no₁ yes₁ = undone (no₁ (rw k.0.1 at b)) k.1
 
 -- a type that a call found, or nothing
-pub finding : {lacks : Type 0} {Q : Ty → ℕ → Type 0} {a : Maybe Ty} (short : Type 0) (n : ℕ) (s t : State) (r : Result (Option ℕ) NoRoom) (o : Option ℕ) (f g : Bool)
-    → Founds r f g o → f ≡ false → Answers short (Typed n s t a) r → (short → lacks)
-    → ((b : Ty) (k : ℕ) → a ≡ some b → Made n s t (λ c i. c.typ i ≡ some b) k → Q b k) → Serves lacks Q a g o
-finding short n s t r (Some x) f g k e b no₁ yes₁ =
+pub finding : {lacks kept : Type 0} {Q : Ty → ℕ → Type 0} {a : Maybe Ty} (short : Type 0) (n : ℕ) (s t : State) (r : Result (Option ℕ) NoRoom) (o : Option ℕ) (f g : Bool)
+    → Founds r f g o → f ≡ false → Answers short (Typed n s t a) r → (short → lacks) → (a ≡ none → Grows n s t → kept)
+    → ((b : Ty) (k : ℕ) → a ≡ some b → Made n s t (λ c i. c.typ i ≡ some b) k → Q b k) → Serves lacks kept Q a g o
+finding short n s t r (Some x) f g k e b no₁ same yes₁ =
     let h = rw k.0 at b in
     let j = h.finds in
     served j.what j.is (yes₁ _ x j.is (record { grows = h.grows; stands = j.stands })) (k.1 ∙ e)
-finding short n s t r None f g (inl k) e b no₁ yes₁ = nothing (rw k.0 at b).finds (k.1 ∙ e)
-finding short n s t r None f g (inr k) e b no₁ yes₁ = unserved (no₁ (rw k.0.1 at b)) k.1
+finding short n s t r None f g (inl k) e b no₁ same yes₁ =
+    let h = rw k.0 at b in
+    nothing (same h.finds h.grows) h.finds (k.1 ∙ e)
+finding short n s t r None f g (inr k) e b no₁ same yes₁ = unserved (no₁ (rw k.0.1 at b)) k.1
 
 -- a test
 pub testing : {lacks : Type 0} {t : Bool} (short : Type 0) (r : Result Bool NoRoom) (o : Option Unit) (f g : Bool)

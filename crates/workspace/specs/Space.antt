@@ -26,11 +26,12 @@ pub data Does {X : Type 0} (lacks : Type 0) (P : X → Type 0) (full : Bool) : O
   done : {x : X} → P x → full ≡ false → Does lacks P full (Some x)
   undone : lacks → full ≡ true → Does lacks P full None
 
--- a call that answers what the definitions have as o: P says what the answer has to do with it
-pub data Serves {A X : Type 0} (lacks : Type 0) (P : A → X → Type 0) (o : Maybe A) (full : Bool) : Option X → Type 0 where
-  served : {x : X} (a : A) → o ≡ some a → P a x → full ≡ false → Serves lacks P o full (Some x)
-  nothing : o ≡ none → full ≡ false → Serves lacks P o full None
-  unserved : lacks → full ≡ true → Serves lacks P o full None
+-- a call that answers what the definitions have as o: P says what the answer has to do with it; where there is nothing, kept says what
+-- became of the store
+pub data Serves {A X : Type 0} (lacks kept : Type 0) (P : A → X → Type 0) (o : Maybe A) (full : Bool) : Option X → Type 0 where
+  served : {x : X} (a : A) → o ≡ some a → P a x → full ≡ false → Serves lacks kept P o full (Some x)
+  nothing : kept → o ≡ none → full ≡ false → Serves lacks kept P o full None
+  unserved : lacks → full ≡ true → Serves lacks kept P o full None
 
 -- a test that answers b: passed, or not
 pub data Tests (lacks : Type 0) (b : Bool) (full : Bool) : Option Unit → Type 0 where

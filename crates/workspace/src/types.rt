@@ -35,7 +35,7 @@ pub fn type_in<S: Store>(
     requires ground { Grounded (S.state store.old).contents ground }
     requires term { (u : Tm) × ((S.state store.old).contents.term t ≡ some u) }
     ensures space { space work.new ≡ space work.old }
-    ensures cases { (th : Theory) (u : Tm) → Knows theory.now (S.state store.old).contents th → (S.state store.old).contents.term t ≡ some u → Serves (Lacks (space work.old) (nodes_tm u + widest th) (S.state store.old).left (types_built th [] u)) (λ a. Made (types_built th [] u) (S.state store.old) (S.state store.new) (λ c n. c.typ n ≡ some a)) (typed th u) work.new.full result }
+    ensures cases { (th : Theory) (u : Tm) → Knows theory.now (S.state store.old).contents th → (S.state store.old).contents.term t ≡ some u → Serves (Lacks (space work.old) (nodes_tm u + widest th) (S.state store.old).left (types_built th [] u)) (Grows (types_built th [] u) (S.state store.old) (S.state store.new)) (λ a. Made (types_built th [] u) (S.state store.old) (S.state store.new) (λ c n. c.typ n ≡ some a)) (typed th u) work.new.full result }
 {
     let third = work.words.len() / 3;
     let (stack, rest) = work.words.split_at_mut(third);
@@ -71,7 +71,7 @@ pub fn has_type<S: Store>(
     requires term { (u : Tm) × ((S.state store.old).contents.term t ≡ some u) }
     requires typ { (b : Ty) × ((S.state store.old).contents.typ a ≡ some b) }
     ensures space { space work.new ≡ space work.old }
-    ensures grows { (th : Theory) (u : Tm) → Knows theory.now (S.state store.old).contents th → (S.state store.old).contents.term t ≡ some u → result ≡ Some tt → Grows (types_built th [] u) (S.state store.old) (S.state store.new) }
+    ensures grows { (th : Theory) (u : Tm) → Knows theory.now (S.state store.old).contents th → (S.state store.old).contents.term t ≡ some u → work.new.full ≡ false → Grows (types_built th [] u) (S.state store.old) (S.state store.new) }
     ensures cases { (th : Theory) (u : Tm) (b : Ty) → Knows theory.now (S.state store.old).contents th → (S.state store.old).contents.term t ≡ some u → (S.state store.old).contents.typ a ≡ some b → Tests (Lacks (space work.old) (nodes_tm u + widest th) (S.state store.old).left (types_built th [] u)) (has-typed th u b) work.new.full result }
 {
     let b = type_in(store, work, theory, ground, t)?;
@@ -114,7 +114,7 @@ pub fn constant_type<S: Store>(
     requires word { (w : Word) × ((S.state store.old).contents.word name ≡ some w) }
     requires types { (bs : Tys) × ((S.state store.old).contents.types list ≡ some bs) }
     ensures space { space work.new ≡ space work.old }
-    ensures cases { (th : Theory) (w : Word) (bs : Tys) → Knows theory.now (S.state store.old).contents th → (S.state store.old).contents.word name ≡ some w → (S.state store.old).contents.types list ≡ some bs → Serves (Lacks (space work.old) (widest th + nodes_tys bs) (S.state store.old).left (nodes_of (type_at th w bs))) (λ a. Made (nodes_ty a) (S.state store.old) (S.state store.new) (λ c n. c.typ n ≡ some a)) (type_at th w bs) work.new.full result }
+    ensures cases { (th : Theory) (w : Word) (bs : Tys) → Knows theory.now (S.state store.old).contents th → (S.state store.old).contents.word name ≡ some w → (S.state store.old).contents.types list ≡ some bs → Serves (Lacks (space work.old) (widest th + nodes_tys bs) (S.state store.old).left (nodes_of (type_at th w bs))) (Grows 0 (S.state store.old) (S.state store.new)) (λ a. Made (nodes_ty a) (S.state store.old) (S.state store.new) (λ c n. c.typ n ≡ some a)) (type_at th w bs) work.new.full result }
 {
     let half = work.words.len() / 2;
     let (stack, scratch) = work.words.split_at_mut(half);

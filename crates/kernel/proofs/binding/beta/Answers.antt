@@ -1,5 +1,5 @@
 use Rattle.std.proofs.Common.{[], ◌∙◌, le_refl, arith, rules}
-use Rattle.store.proofs.Growth.{grows_on, grows-more}
+use Rattle.store.proofs.Growth.{grows_same, grows_on, grows-more}
 use Rattle.hol.specs.Kernel.{s_beta}
 use Rattle.hol.proofs.Steps.{steps_sound}
 use Rattle.typing.specs.Built.{types_built}
@@ -21,7 +21,7 @@ returns-in_err-parts g c =
       space = search rules;
       cases = λ th u hk ht.
           let e = absent _ (redex_of u) (c.in_err-parts.ensures u ht) in
-          rw c.from_residual.ensures (nothing (beta_misses th u e) c.requires.clear);
+          rw c.from_residual.ensures (nothing (grows-more (omega arith) grows_same) (beta_misses th u e) c.requires.clear);
     }
 
 pub type_in-requires : goal.type_in-requires
@@ -32,7 +32,7 @@ returns-in_err-b g c =
     record {
       space = search rules;
       cases = λ th u hk ht. rw c.from_residual-in_err-b.ensures (elim (c.in_err-b.ensures.cases th u hk ht) [
-        | nothing e f ↦ nothing (rw e) f
+        | nothing k e f ↦ nothing k (rw e) f
         | unserved l f ↦ unserved (lacks_more (omega arith) (omega arith) l) f
       ]);
     }

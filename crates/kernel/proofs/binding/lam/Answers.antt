@@ -1,5 +1,5 @@
 use Rattle.std.proofs.Common.{[], ◌∷◌, le_refl, arith, rules}
-use Rattle.store.proofs.Growth.{grows_on, grows-more}
+use Rattle.store.proofs.Growth.{grows_same, grows_on, grows-more}
 use Rattle.hol.specs.Theory.{ok_ty}
 use Rattle.hol.specs.Kernel.{sides, s_lam}
 use Rattle.hol.proofs.Tools.{both}
@@ -18,7 +18,7 @@ returns-in_err-sides g c =
       space = search rules;
       cases = λ th w b p hk hx ha hp.
           let e = absent _ (sides p.concl) (c.in_err-sides.ensures p.concl hp.concl) in
-          rw c.from_residual.ensures (nothing (rw e) c.requires.clear);
+          rw c.from_residual.ensures (nothing grows_same (rw e) c.requires.clear);
     }
 
 pub may_bind-requires : goal.may_bind-requires
@@ -33,7 +33,7 @@ returns-in_err-may_bind g c =
       cases = λ th w b p hk hx ha hp.
           let l = there _ (sides p.concl) (c.in_ok-sides.ensures p.concl hp.concl) in
           rw c.from_residual-in_err-may_bind.ensures (elim (c.in_err-may_bind.ensures.cases th w b p.hyps hk hx ha hp.hyps) [
-            | failed e f ↦ nothing (rw l.is (rw e)) f
+            | failed e f ↦ nothing c.in_err-may_bind.ensures.stays.grows (rw l.is (rw e)) f
             | untested u f ↦ unserved (lacks_more (omega arith) (omega arith) u) f
           ]);
     }

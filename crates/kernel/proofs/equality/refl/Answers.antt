@@ -15,7 +15,7 @@ returns-in_err-a g c =
     record {
       space = search rules;
       cases = λ th u hk ht. rw c.from_residual.ensures (elim (c.in_err-a.ensures.cases th u hk ht) [
-        | nothing e f ↦ nothing (rw e refl) f
+        | nothing k e f ↦ nothing k (rw e refl) f
         | unserved l f ↦ unserved (lacks_more (omega arith) (omega arith) l) f
       ]);
     }

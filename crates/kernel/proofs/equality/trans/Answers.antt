@@ -1,5 +1,5 @@
 use Rattle.std.proofs.Common.{[], ◌∷◌, sym, refl, ◌∙◌, le_refl, arith, rules}
-use Rattle.store.proofs.Growth.{grows_on, grows-more}
+use Rattle.store.proofs.Growth.{grows_same, grows_on, grows-more}
 use Rattle.hol.specs.Kernel.{sides, s_trans}
 use Rattle.hol.proofs.Steps.{steps_sound}
 use Rattle.workspace.specs.Space.{nothing, unserved, served}
@@ -16,7 +16,7 @@ returns-in_err-left g c =
       space = search rules;
       cases = λ th p q hp hq.
           let e = absent _ (sides p.concl) (c.in_err-left.ensures p.concl hp.concl) in
-          rw c.from_residual.ensures (nothing (rw e refl) c.requires.clear);
+          rw c.from_residual.ensures (nothing grows_same (rw e refl) c.requires.clear);
     }
 
 pub returns-in_err-right : goal.returns-in_err-right
@@ -26,7 +26,7 @@ returns-in_err-right g c =
       cases = λ th p q hp hq.
           let l = there _ (sides p.concl) (c.in_ok-left.ensures p.concl hp.concl) in
           let e = absent _ (sides q.concl) (c.in_err-right.ensures q.concl hq.concl) in
-          rw c.from_residual-in_err-right.ensures (nothing (rw l.is (rw e refl)) c.requires.clear);
+          rw c.from_residual-in_err-right.ensures (nothing grows_same (rw l.is (rw e refl)) c.requires.clear);
     }
 
 pub returns-then-not-meets : goal.returns-then-not-meets
@@ -37,7 +37,7 @@ returns-then-not-meets g c =
           let l = there _ (sides p.concl) (c.in_ok-left.ensures p.concl hp.concl) in
           let r = there _ (sides q.concl) (c.in_ok-right.ensures q.concl hq.concl) in
           let e = sym (c.meets.ensures.same l.what r.what l.stands r.stands) ∙ c.if-not-meets.true in
-          nothing (rw l.is (rw r.is (rw e refl))) c.requires.clear;
+          nothing c.meets.ensures.stays.grows (rw l.is (rw r.is (rw e refl))) c.requires.clear;
     }
 
 pub join-requires : goal.join-requires

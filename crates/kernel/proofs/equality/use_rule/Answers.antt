@@ -1,5 +1,5 @@
 use Rattle.std.proofs.Common.{[], ◌∷◌, sym, refl, ◌∙◌, inr, le_refl, arith, rules}
-use Rattle.store.proofs.Growth.{grows_on, grows-more}
+use Rattle.store.proofs.Growth.{grows_same, grows_on, grows-more}
 use Rattle.walk.proofs.Compared.{types_compared}
 use Rattle.hol.specs.Syntax.{arrow}
 use Rattle.hol.specs.Kernel.{sides, s_use}
@@ -18,7 +18,7 @@ returns-in_err-functions g c =
       space = search rules;
       cases = λ th p q hp hq.
           let e = absent _ (sides p.concl) (c.in_err-functions.ensures p.concl hp.concl) in
-          rw c.from_residual.ensures (nothing (rw e) c.requires.clear);
+          rw c.from_residual.ensures (nothing grows_same (rw e) c.requires.clear);
     }
 
 pub returns-in_err-arguments : goal.returns-in_err-arguments
@@ -28,7 +28,7 @@ returns-in_err-arguments g c =
       cases = λ th p q hp hq.
           let l = there _ (sides p.concl) (c.in_ok-functions.ensures p.concl hp.concl) in
           let e = absent _ (sides q.concl) (c.in_err-arguments.ensures q.concl hq.concl) in
-          rw c.from_residual-in_err-arguments.ensures (nothing (rw l.is (rw e)) c.requires.clear);
+          rw c.from_residual-in_err-arguments.ensures (nothing grows_same (rw l.is (rw e)) c.requires.clear);
     }
 
 pub arrow-requires : goal.arrow-requires
@@ -44,7 +44,7 @@ returns-in_err-ty g c =
           let l = there _ (sides p.concl) (c.in_ok-functions.ensures p.concl hp.concl) in
           let r = there _ (sides q.concl) (c.in_ok-arguments.ensures q.concl hq.concl) in
           let e = absent _ (arrow l.what.ty) (c.in_err-ty.ensures _ l.stands.ty) in
-          rw c.from_residual-in_err-ty.ensures (nothing (rw l.is (rw r.is (rw e))) c.requires.clear);
+          rw c.from_residual-in_err-ty.ensures (nothing grows_same (rw l.is (rw r.is (rw e))) c.requires.clear);
     }
 
 pub returns-then-not-same_type : goal.returns-then-not-same_type
@@ -57,7 +57,7 @@ returns-then-not-same_type g c =
           let r = there _ (sides q.concl) (c.in_ok-arguments.ensures q.concl hq.concl) in
           let f = there _ (arrow l.what.ty) (c.in_ok-ty.ensures _ l.stands.ty) in
           let e = sym (types_compared f.stands.dom r.stands.ty a.sound a.complete) ∙ c.if-not-same_type.true in
-          nothing (rw l.is (rw r.is (rw f.is (rw e)))) c.requires.clear;
+          nothing a.stays.grows (rw l.is (rw r.is (rw f.is (rw e)))) c.requires.clear;
     }
 
 pub join-requires : goal.join-requires

@@ -9,5 +9,5 @@ pub returns : goal.returns
 returns g c =
     record {
       space = search rules;
-      cases = λ th w bs h k l. finding _ _ _ _ _ c.found.result _ _ c.found.ensures.cases c.requires.clear (c.const_at-answer.ensures.cases th w bs h k l) (lacks_tight _ _ _ _ _ _ _ (omega arith) (omega arith) (omega (arith, declared-fits th w)) (omega (arith, widest_positive th))) (λ b n e m. record { grows = grows-more (omega (arith, ap nodes_of e)) m.grows; stands = m.stands });
+      cases = λ th w bs h k l. finding _ _ _ _ _ c.found.result _ _ c.found.ensures.cases c.requires.clear (c.const_at-answer.ensures.cases th w bs h k l) (lacks_tight _ _ _ _ _ _ _ (omega arith) (omega arith) (omega (arith, declared-fits th w)) (omega (arith, widest_positive th))) (λ e gr. grows-more (omega (arith, ap nodes_of e)) gr) (λ b n e m. record { grows = grows-more (omega (arith, ap nodes_of e)) m.grows; stands = m.stands });
     }

@@ -7,5 +7,5 @@ pub returns : goal.returns
 returns g c =
     record {
       space = search rules;
-      cases = λ th u h k. finding _ _ _ _ _ c.found.result _ _ c.found.ensures.cases c.requires.clear (c.type_of-answer.ensures.cases th u h k) (lacks_cramped _ _ _ _ _ _ _ _ (omega arith) (omega arith) (omega arith) (nodes_positive u)) (λ b n e m. m);
+      cases = λ th u h k. finding _ _ _ _ _ c.found.result _ _ c.found.ensures.cases c.requires.clear (c.type_of-answer.ensures.cases th u h k) (lacks_cramped _ _ _ _ _ _ _ _ (omega arith) (omega arith) (omega arith) (nodes_positive u)) (λ e gr. gr) (λ b n e m. m);
     }
