@@ -8,7 +8,7 @@ use Rattle.store.specs.Measures.{nodes_tms}
 use Rattle.store.specs.State.{Contents, State, Grows}
 use Rattle.store.specs.Builds.{Made}
 use Rattle.store.proofs.Growth.{grows_on, grows-more}
-use Rattle.stack.specs.declared.frame.NoRoom.{NoRoom}
+use Rattle.lent.specs.declared.NoRoom.{NoRoom}
 use Rattle.hyps.specs.Sifting.{put, extra, sifted, poured, Stand, stand_none, stand_more, IsList, Lists}
 use Rattle.hyps.proofs.Spreading.{stand_kept}
 

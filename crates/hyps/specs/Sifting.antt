@@ -6,9 +6,9 @@ use Rattle.store.specs.Measures.{nodes_tm, nodes_tms}
 use Rattle.store.specs.State.{Contents, State}
 use Rattle.store.specs.Builds.{Made}
 use Rattle.stack.specs.Frames.{held, capacity}
-use Rattle.stack.specs.Answers.{Answers}
+use Rattle.lent.specs.Answers.{Answers}
 use Rattle.stack.specs.declared.frame.Frame.{Frame}
-use Rattle.stack.specs.declared.frame.NoRoom.{NoRoom}
+use Rattle.lent.specs.declared.NoRoom.{NoRoom}
 
 -- u before vs, unless p leaves it out
 abbrev pub put : (Tm → List Tm → Bool) → Tm → List Tm → List Tm

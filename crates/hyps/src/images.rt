@@ -7,12 +7,13 @@ ghost use Rattle.store.specs.Measures.{nodes_tm, nodes_tms};
 ghost use Rattle.store.specs.State.{Contents, Keeps};
 ghost use Rattle.store.specs.Builds.{Made};
 ghost use Rattle.stack.specs.Frames.{held, capacity, Within, Same, Restores};
-ghost use Rattle.stack.specs.Answers.{Answers};
+ghost use Rattle.lent.specs.Answers.{Answers};
 ghost use Rattle.hyps.specs.Sifting.{put, extra, poured, Stand, IsTerm, IsList, Lists};
 
 use super::members::contains;
 use super::sift::spread;
-use stack::frame::{Frame, NoRoom};
+use lent::NoRoom;
+use stack::frame::Frame;
 use store::Store;
 
 // A function from terms to terms, by building in a store.

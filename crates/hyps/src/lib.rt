@@ -18,7 +18,7 @@ pub use images::{TermMap, map_dedup};
 use left_out::LeftOut;
 pub use members::{contains, view};
 use sift::sift;
-use stack::frame::NoRoom;
+use lent::NoRoom;
 use store::Store;
 
 // The terms of `hs` that are not in `gs`, then those of `gs`.

@@ -6,13 +6,14 @@ ghost use Rattle.store.specs.Measures.{nodes_tms};
 ghost use Rattle.store.specs.State.{Stays};
 ghost use Rattle.store.specs.Builds.{Made};
 ghost use Rattle.stack.specs.Frames.{held, Within, Same, Restores};
-ghost use Rattle.stack.specs.Answers.{Answers};
+ghost use Rattle.lent.specs.Answers.{Answers};
 ghost use Rattle.hyps.specs.Sifting.{put, extra, sifted, poured, Stand, Spreads, IsList, Lists};
 ghost use Rattle.hyps.specs.Leaving.{Leaves};
 
 use super::left_out::LeftOut;
 use super::members::{contains, view};
-use stack::frame::{Frame, NoRoom};
+use lent::NoRoom;
+use stack::frame::Frame;
 use store::Store;
 use store::view::ListView;
 

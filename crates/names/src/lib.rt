@@ -1,10 +1,12 @@
-// Names of any store, compared with bytes.
+// Names of any store, compared with bytes, and free variables, compared with one another.
 #![tactic(auto)]
 
 ghost use Rattle.std.specs.Prelude.{◌≡◌, []};
 ghost use Rattle.std.proofs.Math.Option.{some};
 ghost use Rattle.hol.specs.Base.{Word, same_word};
 ghost use Rattle.names.specs.Tails.{TailSays};
+
+pub mod variables;
 
 use store::Store;
 use store::view::NameView;

@@ -6,8 +6,8 @@ use Rattle.hol.specs.Syntax.{Ty, Tm, app, lam}
 use Rattle.hol.specs.Text.{Token, closes, Sexp, Sexps, nil, cons, one_of, read_term}
 use Rattle.reader.specs.Flat.{flat, flats, cost, costs, depth, depths}
 use Rattle.store.specs.State.{Contents, State, Grows}
-use Rattle.stack.specs.Answers.{Answers}
-use Rattle.stack.specs.declared.frame.NoRoom.{NoRoom}
+use Rattle.lent.specs.Answers.{Answers}
+use Rattle.lent.specs.declared.NoRoom.{NoRoom}
 use Rattle.parser_types.specs.Reads.{Reading}
 use Rattle.parser.specs.declared.turn.Turn.{Turn}
 use Rattle.parser.specs.declared.turn.Turn.TheVariants.{Down, Up, End, Fail}

@@ -7,8 +7,8 @@ use Rattle.hol.specs.Text.{Token, closes, word, Sexp, Sexps, atom, list, cons, r
 use Rattle.reader.specs.Flat.{flats, cost, costs}
 use Rattle.store.specs.State.{State, Grows}
 use Rattle.store.specs.Builds.{Made, IsWord}
-use Rattle.stack.specs.Answers.{Answers}
-use Rattle.stack.specs.declared.frame.NoRoom.{NoRoom}
+use Rattle.lent.specs.Answers.{Answers}
+use Rattle.lent.specs.declared.NoRoom.{NoRoom}
 use Rattle.parser.specs.declared.turn.Form.{Form}
 use Rattle.parser.specs.declared.turn.Form.TheVariants.{Free, Constant, Application, Lambda}
 use Rattle.parser.specs.declared.turn.Binder.{Binder}

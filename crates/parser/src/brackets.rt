@@ -10,7 +10,7 @@ ghost use Rattle.parser.specs.Parts.{CloseSays, NameSays, FormOf, FormSays, Bind
 use crate::turn::{Binder, Form, Opened};
 use parser_types::{read_type, read_types};
 use reader::tokens::{Token, Tokens};
-use stack::frame::NoRoom;
+use lent::NoRoom;
 use store::Store;
 
 // Whether the next token is a bracket that closes, which is behind then.

@@ -13,7 +13,8 @@ use crate::brackets::{closes_next, open};
 use crate::scope::lookup;
 use crate::turn::{Opened, Turn, Wait};
 use reader::tokens::{Token, Tokens};
-use stack::frame::{Frame, NoRoom};
+use lent::NoRoom;
+use stack::frame::Frame;
 use store::Store;
 
 // What waits, by the word that stands for it on the stack.

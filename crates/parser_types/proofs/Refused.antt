@@ -3,8 +3,8 @@ use Rattle.std.proofs.Common.{◌≡◌, ℕ, true, is_err, Some, Ok, Err, Resul
 use Rattle.hol.proofs.Tools.{clash}
 use Rattle.store.specs.State.{State}
 use Rattle.parser_types.specs.Reads.{Absent}
-use Rattle.stack.specs.Answers.{Answers}
-use Rattle.stack.specs.declared.frame.NoRoom.{NoRoom}
+use Rattle.lent.specs.Answers.{Answers}
+use Rattle.lent.specs.declared.NoRoom.{NoRoom}
 
 -- a refusal was handed on
 pub refused : {X Short : Type 0} (P : X → Type 0) (r : Result X NoRoom) → is_err r ≡ true → Short → Answers Short P r

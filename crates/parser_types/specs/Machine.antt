@@ -6,8 +6,8 @@ use Rattle.hol.specs.Syntax.{Ty, tyapp, Tys, tcons}
 use Rattle.hol.specs.Text.{Token, closes, Sexps, read_types}
 use Rattle.reader.specs.Flat.{flats, costs}
 use Rattle.store.specs.State.{Contents, State, Grows}
-use Rattle.stack.specs.Answers.{Answers}
-use Rattle.stack.specs.declared.frame.NoRoom.{NoRoom}
+use Rattle.lent.specs.Answers.{Answers}
+use Rattle.lent.specs.declared.NoRoom.{NoRoom}
 use Rattle.parser_types.specs.declared.turn.Turn.{Turn}
 use Rattle.parser_types.specs.declared.turn.Turn.TheVariants.{Next, Close, End, Fail}
 use Rattle.parser_types.specs.declared.turn.Mark.{Mark}

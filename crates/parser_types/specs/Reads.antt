@@ -6,8 +6,8 @@ use Rattle.hol.specs.Theory.{is_tyvar}
 use Rattle.hol.specs.Text.{Token, word, read_type_word}
 use Rattle.store.specs.State.{Contents, State, Grows}
 use Rattle.store.specs.Builds.{Made, IsWord}
-use Rattle.stack.specs.Answers.{Answers}
-use Rattle.stack.specs.declared.frame.NoRoom.{NoRoom}
+use Rattle.lent.specs.Answers.{Answers}
+use Rattle.lent.specs.declared.NoRoom.{NoRoom}
 
 -- o is there, and n stands for it; the stream goes on behind
 pub record Read {A : Type 0} (kept : Contents → ℕ → Maybe A) (o : Maybe A) (cost : ℕ) (s t : State) (qs ps : List Token) (n : ℕ) : Type 0 where

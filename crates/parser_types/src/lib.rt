@@ -14,7 +14,8 @@ ghost use Rattle.parser_types.specs.declared.turn.Mark.{Mark as Marks};
 pub mod turn;
 
 use reader::tokens::{Token, Tokens};
-use stack::frame::{Frame, NoRoom};
+use lent::NoRoom;
+use stack::frame::Frame;
 use store::Store;
 use turn::{Mark, Turn};
 

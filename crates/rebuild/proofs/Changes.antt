@@ -6,7 +6,7 @@ use Rattle.hol.specs.Base.{Word}
 use Rattle.hol.specs.Syntax.{Ty, Tm, fvar, bvar, const, app, lam, TySubst, inst_tm, subst_ty, open_at, close_at, Subst, subst_tm}
 use Rattle.store.specs.Measures.{nodes_tm}
 use Rattle.store.specs.State.{State}
-use Rattle.stack.specs.declared.frame.NoRoom.{NoRoom}
+use Rattle.lent.specs.declared.NoRoom.{NoRoom}
 use Rattle.rebuild_types.specs.Rebuilds.{Rebuilds}
 use Rattle.rebuild.specs.Rebuilt.{rebuilt, opening, closing, substituting, instantiating}
 

@@ -9,7 +9,7 @@ use Rattle.store.specs.Builds.{Made, Full, IsFree, IsBound, IsConst}
 use Rattle.store.specs.Views.{TermSays, ViewFree, ViewConstant}
 use Rattle.store.specs.declared.view.TermView.{TermView}
 use Rattle.store.specs.declared.view.TermView.TheVariants.{Free, Bound, Constant, Apply, Lambda}
-use Rattle.stack.specs.declared.frame.NoRoom.{NoRoom}
+use Rattle.lent.specs.declared.NoRoom.{NoRoom}
 use Rattle.rebuild_types.specs.Rebuilds.{Rebuilds}
 use Rattle.store.proofs.Growth.{grows_on, grows-more, stays_same}
 use Rattle.rebuild.specs.Rebuilt.{Change, is_leaf}

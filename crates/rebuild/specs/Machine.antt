@@ -4,8 +4,8 @@ use Rattle.std.proofs.Math.Option.{some}
 use Rattle.hol.specs.Syntax.{Ty, Tm, app, lam}
 use Rattle.store.specs.Measures.{nodes_ty, nodes_tm}
 use Rattle.store.specs.State.{Contents, State, Grows}
-use Rattle.stack.specs.Answers.{Answers}
-use Rattle.stack.specs.declared.frame.NoRoom.{NoRoom}
+use Rattle.lent.specs.Answers.{Answers}
+use Rattle.lent.specs.declared.NoRoom.{NoRoom}
 use Rattle.rebuild.specs.Rebuilt.{Change, rebuilt}
 use Rattle.rebuild.specs.declared.turn.Turn.{Turn}
 use Rattle.rebuild.specs.declared.turn.Turn.TheVariants.{Down, Up, End}

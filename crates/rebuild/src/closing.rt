@@ -12,7 +12,7 @@ ghost use Rattle.rebuild.specs.Kept.{closes_kept};
 
 use super::leaf::Leaf;
 use super::rebuild;
-use stack::frame::NoRoom;
+use lent::NoRoom;
 use store::Store;
 use store::view::TermView;
 

@@ -12,7 +12,7 @@ ghost use Rattle.rebuild.specs.Kept.{instantiates_kept};
 use super::leaf::Leaf;
 use super::rebuild;
 use rebuild_types::{subst_type, subst_types};
-use stack::frame::NoRoom;
+use lent::NoRoom;
 use store::Store;
 use store::view::TermView;
 

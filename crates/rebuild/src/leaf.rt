@@ -8,7 +8,7 @@ ghost use Rattle.stack.specs.Frames.{Restores};
 ghost use Rattle.rebuild_types.specs.Rebuilds.{Rebuilds};
 ghost use Rattle.rebuild.specs.Rebuilt.{Change, is_leaf};
 
-use stack::frame::NoRoom;
+use lent::NoRoom;
 use store::Store;
 
 pub trait Leaf<S: Store> {

@@ -19,7 +19,8 @@ pub mod substituting;
 pub mod turn;
 
 use leaf::Leaf;
-use stack::frame::{Frame, NoRoom};
+use lent::NoRoom;
+use stack::frame::Frame;
 use store::Store;
 use store::view::TermView;
 use turn::{Turn, Wait};

@@ -13,7 +13,7 @@ ghost use Rattle.rebuild.specs.Kept.{substitutes_kept};
 use super::closing::same_variable;
 use super::leaf::Leaf;
 use super::rebuild;
-use stack::frame::NoRoom;
+use lent::NoRoom;
 use store::Store;
 use store::view::TermView;
 

@@ -7,7 +7,7 @@ use Rattle.store.specs.State.{Contents, State, Grows}
 use Rattle.store.specs.Builds.{Made}
 use Rattle.stack.specs.Frames.{held, capacity, Within, Same}
 use Rattle.stack.specs.declared.frame.Frame.{Frame}
-use Rattle.stack.specs.declared.frame.NoRoom.{NoRoom}
+use Rattle.lent.specs.declared.NoRoom.{NoRoom}
 use Rattle.rebuild_types.specs.Entries.{TyEntries}
 use Rattle.rebuild_types.specs.Machine.{Sort, one, many, Of, nodes, substituted, item, Item, nodes_item, Is, Path, root, args_of, head_of, tail_of, pending, code, Holds, holds_root, holds_args, holds_head, holds_tail, Point, down, outcome, spent, weight, moves, At, at_type, at_types, at_up, at_end, Moved, Stuck}
 use Rattle.rebuild_types.specs.declared.turn.Turn.{Turn}

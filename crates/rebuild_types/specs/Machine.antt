@@ -5,8 +5,8 @@ use Rattle.hol.specs.Base.{Word}
 use Rattle.hol.specs.Syntax.{Ty, tyapp, Tys, tcons, TySubst, subst_ty, subst_tys}
 use Rattle.store.specs.Measures.{nodes_ty, nodes_tys}
 use Rattle.store.specs.State.{Contents, State, Grows}
-use Rattle.stack.specs.Answers.{Answers}
-use Rattle.stack.specs.declared.frame.NoRoom.{NoRoom}
+use Rattle.lent.specs.Answers.{Answers}
+use Rattle.lent.specs.declared.NoRoom.{NoRoom}
 use Rattle.rebuild_types.specs.declared.turn.Turn.{Turn}
 use Rattle.rebuild_types.specs.declared.turn.Turn.TheVariants.{DownType, DownTypes, Up, End}
 use Rattle.rebuild_types.specs.declared.turn.Wait.{Wait}

@@ -2,8 +2,8 @@
 use Rattle.std.specs.Prelude.{ℕ, ◌*◌, ◌<◌, ◌⊎◌, Result}
 use Rattle.store.specs.State.{Contents, State}
 use Rattle.store.specs.Builds.{Made}
-use Rattle.stack.specs.Answers.{Answers}
-use Rattle.stack.specs.declared.frame.NoRoom.{NoRoom}
+use Rattle.lent.specs.Answers.{Answers}
+use Rattle.lent.specs.declared.NoRoom.{NoRoom}
 
 -- With `room` words of stack: a number of which P holds, for at most `cost` nodes. Or it is refused, and then there were fewer than
 -- four words for each of `need` nodes, or fewer nodes than `cost`.

@@ -15,7 +15,8 @@ ghost use Rattle.rebuild_types.specs.declared.turn.Wait.{Wait as Waits};
 
 pub mod turn;
 
-use stack::frame::{Frame, NoRoom};
+use lent::NoRoom;
+use stack::frame::Frame;
 use store::Store;
 use store::view::{ListView, TypeView};
 use turn::{Turn, Wait};

@@ -24,7 +24,3 @@ impl Drop for Frame<'_> {
         *top = base;
     }
 }
-
-// Too few words were lent.
-#[derive(Clone, Copy, Debug, PartialEq, Eq)]
-pub struct NoRoom;

@@ -1,7 +1,7 @@
 -- Which theory a table stands for, and what adding a declaration does to it.
 use Rattle.std.specs.Prelude.{◌≡◌, ◌+◌, ◌*◌, ◌<◌, ◌∷◌, length, Ok, Err, Result}
 use Rattle.std.proofs.Math.Option.{some}
-use Rattle.stack.specs.declared.frame.NoRoom.{NoRoom}
+use Rattle.lent.specs.declared.NoRoom.{NoRoom}
 use Rattle.hol.specs.Syntax.{tyvar, fun, bool, w_a}
 use Rattle.hol.specs.Theory.{Decl, Theory}
 use Rattle.store.specs.State.{Contents}

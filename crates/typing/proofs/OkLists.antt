@@ -1,8 +1,8 @@
 -- Going through lists of types while all are ok: the first type of a list is opened, and the rest is left for later.
 use Rattle.std.proofs.Common.{◌≡◌, ℕ, ◌+◌, ◌<◌, ◌≤◌, Bool, true, false, ◌&&◌, eqb, List, [], ◌∷◌, length, Ok, Err, Result, sym, refl, ap, ◌∙◌, arith}
 use mathlib.Core.Option.{some}
-use Rattle.stack.specs.Answers.{Answers}
-use Rattle.stack.specs.declared.frame.NoRoom.{NoRoom}
+use Rattle.lent.specs.Answers.{Answers}
+use Rattle.lent.specs.declared.NoRoom.{NoRoom}
 use Rattle.hol.specs.Base.{Word, option}
 use Rattle.hol.specs.Syntax.{Ty, tyapp, Tys, count_tys}
 use Rattle.hol.specs.Theory.{Theory, type_arity, ok_ty, ok_tys}

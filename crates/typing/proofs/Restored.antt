@@ -1,8 +1,8 @@
 -- A stack that is lent twice, one call after the other; and answers that are refused.
 use Rattle.std.proofs.Common.{◌≡◌, ℕ, ◌-◌, ◌≤◌, true, List, length, is_err, Ok, Err, Result, sym, ◌∙◌, true≢false, arith}
-use Rattle.stack.specs.Answers.{Answers}
+use Rattle.lent.specs.Answers.{Answers}
 use Rattle.stack.specs.Frames.{Restores}
-use Rattle.stack.specs.declared.frame.NoRoom.{NoRoom}
+use Rattle.lent.specs.declared.NoRoom.{NoRoom}
 
 pub restores_on : {ws vs xs : List ℕ} {t u y : ℕ} → Restores ws t vs u → Restores vs u xs y → Restores ws t xs y
 restores_on h k = record { top = k.top ∙ h.top; len = k.len ∙ h.len; below = (rw h.top at k.below) ∙ h.below }

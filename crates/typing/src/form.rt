@@ -5,10 +5,10 @@ ghost use Rattle.hol.specs.Syntax.{Ty, w_fun, fun};
 ghost use Rattle.hol.specs.Theory.{app_ty};
 ghost use Rattle.store.specs.Builds.{Made};
 ghost use Rattle.store.specs.State.{Stays};
-ghost use Rattle.stack.specs.Answers.{Answers};
+ghost use Rattle.lent.specs.Answers.{Answers};
 ghost use Rattle.signature.specs.Finds.{Finds};
 
-use stack::frame::NoRoom;
+use lent::NoRoom;
 use store::Store;
 use walk::shapes::arrow;
 

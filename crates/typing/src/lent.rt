@@ -6,7 +6,7 @@ ghost use Rattle.hol.specs.Syntax.{Ty, Tys};
 ghost use Rattle.hol.specs.Theory.{Theory, ok_ty, const_at};
 ghost use Rattle.store.specs.Measures.{nodes_ty, nodes_tys};
 ghost use Rattle.store.specs.State.{Stays};
-ghost use Rattle.stack.specs.Answers.{Answers};
+ghost use Rattle.lent.specs.Answers.{Answers};
 ghost use Rattle.stack.specs.Frames.{held, capacity, Within};
 ghost use Rattle.typing.specs.Lending.{Goes};
 ghost use Rattle.typing.specs.Typed.{Typed, Tight, nodes_of, declared};
@@ -14,7 +14,8 @@ ghost use Rattle.typing.specs.Typed.{Typed, Tight, nodes_of, declared};
 use crate::instance::const_at;
 use crate::ok::ok_type;
 use signature::Signature;
-use stack::frame::{Frame, NoRoom};
+use lent::NoRoom;
+use stack::frame::Frame;
 use store::Store;
 
 // Whether a type is ok.

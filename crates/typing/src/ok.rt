@@ -6,14 +6,15 @@ ghost use Rattle.hol.specs.Syntax.{Ty, Tys, count_tys};
 ghost use Rattle.hol.specs.Theory.{Theory, type_arity, ok_ty, ok_tys};
 ghost use Rattle.store.specs.Measures.{nodes_ty, nodes_tys};
 ghost use Rattle.store.specs.State.{Stays};
-ghost use Rattle.stack.specs.Answers.{Answers};
+ghost use Rattle.lent.specs.Answers.{Answers};
 ghost use Rattle.stack.specs.Frames.{Within, Same, Pushes, Restores};
 ghost use Rattle.typing.specs.Firsts.{FirstSays, behind, head_ok};
 
 use crate::count::has_count;
 use crate::first::FirstType;
 use signature::Signature;
-use stack::frame::{Frame, NoRoom};
+use lent::NoRoom;
+use stack::frame::Frame;
 use store::Store;
 use store::view::{ListView, TypeView};
 use walk::look::{type_at, types_at};

@@ -5,7 +5,7 @@ use Rattle.std.proofs.lemmas.List.{length-take-le}
 use Rattle.hol.specs.Base.{Word}
 use Rattle.store.specs.State.{Contents}
 use Rattle.walk.specs.Standing.{Names, Stand, done, more}
-use Rattle.stack.specs.declared.frame.NoRoom.{NoRoom}
+use Rattle.lent.specs.declared.NoRoom.{NoRoom}
 use Rattle.walk.specs.TypeVars.{Gathers}
 use Rattle.walk.proofs.Pending.{Pending, ended}
 

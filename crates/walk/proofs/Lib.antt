@@ -8,8 +8,6 @@ pub mod Room
 pub mod Passing
 -- looking for free variables is going through a term
 pub mod FreeVars
--- comparing numbers is comparing what they stand for
-pub mod Compared
 -- a list of names in words
 pub mod NameLists
 -- a type or a term adds no more names than it has nodes

@@ -10,7 +10,7 @@ use Rattle.store.specs.declared.view.TermView.{TermView}
 use Rattle.store.specs.declared.view.TermView.TheVariants.{Free, Bound, Constant, Apply, Lambda}
 use Rattle.stack.specs.Frames.{held, onto, capacity, Within}
 use Rattle.stack.specs.declared.frame.Frame.{Frame}
-use Rattle.stack.specs.declared.frame.NoRoom.{NoRoom}
+use Rattle.lent.specs.declared.NoRoom.{NoRoom}
 use Rattle.walk.specs.Below.{below}
 use Rattle.walk.specs.Standing.{Names, more}
 use Rattle.walk.specs.TypeVars.{Adds, Gathers, Short, own_tyvars, own_nodes}

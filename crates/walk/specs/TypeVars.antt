@@ -5,8 +5,8 @@ use Rattle.hol.specs.Base.{Word}
 use Rattle.hol.specs.Syntax.{tyvar, tyapp, Tys, tnil, tcons, Tm, fvar, bvar, const, app, lam, tyvars_ty, tyvars_tys}
 use Rattle.store.specs.Measures.{nodes_ty, nodes_tys}
 use Rattle.store.specs.State.{Contents}
-use Rattle.stack.specs.Answers.{Answers}
-use Rattle.stack.specs.declared.frame.NoRoom.{NoRoom}
+use Rattle.lent.specs.Answers.{Answers}
+use Rattle.lent.specs.declared.NoRoom.{NoRoom}
 use Rattle.walk.specs.Standing.{Names}
 use Rattle.walk.specs.declared.parts.FirstType.{FirstType}
 use Rattle.walk.specs.declared.parts.FirstType.TheVariants.{Missing, Variable, Named}

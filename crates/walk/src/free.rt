@@ -2,15 +2,17 @@
 ghost use Rattle.std.specs.Prelude.{◌≡◌, ◌-◌, ◌<◌, ◌≤◌, length};
 ghost use Rattle.std.proofs.Math.Option.{some};
 ghost use Rattle.hol.specs.Base.{Word};
-ghost use Rattle.hol.specs.Syntax.{Ty, Tm, same_var, free_in, closed};
+ghost use Rattle.hol.specs.Syntax.{Ty, Tm, free_in, closed};
 ghost use Rattle.store.specs.Measures.{nodes_tm};
 ghost use Rattle.store.specs.State.{Stays};
-ghost use Rattle.stack.specs.Answers.{Answers};
+ghost use Rattle.lent.specs.Answers.{Answers};
 ghost use Rattle.stack.specs.Frames.{Restores};
 
 use crate::look::term_at;
 use crate::subterms::push_subterms;
-use stack::frame::{Frame, NoRoom};
+use lent::NoRoom;
+use names::variables::same_variable;
+use stack::frame::Frame;
 use store::Store;
 use store::view::TermView;
 
@@ -40,14 +42,6 @@ pub fn closed<S: Store>(
         }
     }
     Ok(true)
-}
-
-// Whether the variable of name `y` and type `b` is that of name `x` and type `a`.
-pub fn same_variable<S: Store>(store: &mut S, y: u64, b: u64, x: u64, a: u64) -> bool
-    ensures stays { Stays (S.state store.old) (S.state store.new) }
-    ensures same { (v : Word) (d : Ty) (w : Word) (e : Ty) → (S.state store.old).contents.word y ≡ some v → (S.state store.old).contents.typ b ≡ some d → (S.state store.old).contents.word x ≡ some w → (S.state store.old).contents.typ a ≡ some e → result ≡ same_var v d w e }
-{
-    store.same_name(y, x) && store.same_type(b, a)
 }
 
 // Whether the variable of name `x` and type `a` is free in the term `t`.

@@ -7,7 +7,7 @@ ghost use Rattle.store.specs.State.{Stays};
 ghost use Rattle.walk.specs.Standing.{Names};
 ghost use Rattle.walk.specs.TypeVars.{Adds, Gathers};
 
-use stack::frame::NoRoom;
+use lent::NoRoom;
 use store::Store;
 
 // Whether a name is one of these.

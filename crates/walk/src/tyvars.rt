@@ -15,7 +15,8 @@ use crate::listed::insert;
 use crate::look::{term_at, type_at, types_at};
 use crate::parts::FirstType;
 use crate::subterms::push_subterms;
-use stack::frame::{Frame, NoRoom};
+use lent::NoRoom;
+use stack::frame::Frame;
 use store::Store;
 use store::view::{ListView, TermView, TypeView};
 

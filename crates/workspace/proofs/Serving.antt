@@ -6,8 +6,8 @@ use Rattle.hol.specs.Theory.{Theory}
 use Rattle.store.specs.State.{Contents, State, Grows}
 use Rattle.store.specs.Builds.{Builds, Made, Full}
 use Rattle.store.proofs.Growth.{grows_on, grows-more}
-use Rattle.stack.specs.Answers.{Answers}
-use Rattle.stack.specs.declared.frame.NoRoom.{NoRoom}
+use Rattle.lent.specs.Answers.{Answers}
+use Rattle.lent.specs.declared.NoRoom.{NoRoom}
 use Rattle.typing.specs.Typed.{Tight, Typed}
 use Rattle.typing.specs.Machine.{Cramped, widest}
 use Rattle.typing.proofs.Sizes.{declared-fits}

@@ -4,7 +4,7 @@ use Rattle.std.specs.Prelude.{◌≡◌, ℕ, ◌*◌, ◌<◌, Bool, true, fals
 use Rattle.std.proofs.Math.Option.{Option as Maybe, some, none}
 use Rattle.store.specs.State.{Contents, State}
 use Rattle.store.specs.Builds.{Made}
-use Rattle.stack.specs.declared.frame.NoRoom.{NoRoom}
+use Rattle.lent.specs.declared.NoRoom.{NoRoom}
 use Rattle.workspace.specs.declared.space.Workspace.{Workspace}
 
 -- how many words are lent

@@ -3,7 +3,7 @@ ghost use Rattle.std.specs.Prelude.{◌≡◌, false};
 ghost use Rattle.workspace.specs.Space.{space, Rooms, Keeping, Founds, Holdings};
 
 use crate::space::Workspace;
-use stack::frame::NoRoom;
+use lent::NoRoom;
 
 impl<'a> Workspace<'a> {
     // A workspace of these words, with the flag clear.

@@ -12,7 +12,7 @@ ghost use Rattle.workspace.specs.Space.{space, Lacks, Does, Tests};
 
 use crate::space::Workspace;
 use hyps::{remove, union, union_removing, view};
-use stack::frame::NoRoom;
+use lent::NoRoom;
 use store::Store;
 use store::view::ListView;
 use walk::free::free_in;

@@ -8,7 +8,7 @@ ghost use Rattle.theory.specs.Knows.{Knows, Adds};
 
 use super::Decls;
 use crate::row::{Kind, Row};
-use stack::frame::NoRoom;
+use lent::NoRoom;
 
 impl<'a> Decls<'a> {
     // The table of the empty theory over these words. `eq_type` and `choice_type` are the types of the constants = and @.

@@ -1,6 +1,6 @@
 use Rattle.std.proofs.Common.{sym, ◌∙◌}
 use Rattle.store.proofs.Growth.{stays_on}
-use Rattle.walk.proofs.Compared.{types_compared}
+use Rattle.names.proofs.Compared.{types_compared}
 use Rattle.hyps.proofs.Seeking.{same_decides}
 use Rattle.kernel.proofs.equality.meets.Goals as goal
 

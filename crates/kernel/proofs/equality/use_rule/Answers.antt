@@ -1,6 +1,6 @@
 use Rattle.std.proofs.Common.{[], ◌∷◌, sym, refl, ◌∙◌, inr, le_refl, arith, rules}
 use Rattle.store.proofs.Growth.{grows_same, grows_on, grows-more}
-use Rattle.walk.proofs.Compared.{types_compared}
+use Rattle.names.proofs.Compared.{types_compared}
 use Rattle.hol.specs.Syntax.{arrow}
 use Rattle.hol.specs.Kernel.{sides, s_use}
 use Rattle.hol.proofs.Steps.{steps_sound}

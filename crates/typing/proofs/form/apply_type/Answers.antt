@@ -1,6 +1,6 @@
 use Rattle.std.proofs.Common.{sym, ◌∙◌}
 use Rattle.store.proofs.Growth.{stays_same}
-use Rattle.walk.proofs.Compared.{types_compared}
+use Rattle.names.proofs.Compared.{types_compared}
 use Rattle.typing.proofs.Forms.{no_arrow, an_arrow, applied, not_applied}
 use Rattle.typing.proofs.form.apply_type.Goals as goal
 

@@ -1,5 +1,5 @@
 use Rattle.std.proofs.Common.{sym, ◌∙◌}
-use Rattle.walk.proofs.Compared.{words_compared}
+use Rattle.names.proofs.Compared.{words_compared}
 use Rattle.store.proofs.Growth.{stays_same, stays_on}
 use Rattle.walk.proofs.NameLists.{begin_seeking, met, none_left}
 use Rattle.walk.proofs.listed.among.Goals as goal

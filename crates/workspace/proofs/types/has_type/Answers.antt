@@ -1,6 +1,6 @@
 use Rattle.std.proofs.Common.{sym, ◌∙◌, arith, rules}
 use Rattle.store.proofs.Growth.{grows_on}
-use Rattle.walk.proofs.Compared.{types_compared}
+use Rattle.names.proofs.Compared.{types_compared}
 use Rattle.store.proofs.Growth.{grows-more}
 use Rattle.workspace.specs.Space.{served, nothing, unserved, passed, failed, untested}
 use Rattle.workspace.proofs.Hastype.{has_none, has_some}

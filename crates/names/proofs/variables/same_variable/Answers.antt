@@ -1,8 +1,8 @@
 use Rattle.std.proofs.Common.{◌&&◌, sym, ap, ◌∙◌}
 use Rattle.hol.specs.Syntax.{same_ty}
 use Rattle.store.proofs.Growth.{stays_on}
-use Rattle.walk.proofs.Compared.{words_compared, types_compared}
-use Rattle.walk.proofs.free.same_variable.Goals as goal
+use Rattle.names.proofs.Compared.{words_compared, types_compared}
+use Rattle.names.proofs.variables.same_variable.Goals as goal
 
 pub returns-then-same_name : goal.returns-then-same_name
 returns-then-same_name g c =

@@ -1,0 +1,2 @@
+-- the words of a stack, as lists
+pub mod Words

@@ -1,0 +1,2 @@
+-- words for what waits
+pub mod Codes
