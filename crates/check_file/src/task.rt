@@ -5,21 +5,17 @@ use std::{env, io};
 pub enum Task {
     Help,
     Count(String),
-    Unclear,
 }
 
-// One argument, a file's name or --help.
-pub fn asked(rt: &HostRuntime) -> io::Result<Task> {
+// One argument, a file's name or --help; None where there is another number of them.
+pub fn asked(rt: &HostRuntime) -> io::Result<Option<Task>> {
     let mut args = env::args(rt)?;
     let _program = args.next();
-    let Some(name) = args.next() else {
-        return Ok(Task::Unclear);
+    let (Some(name), None) = (args.next(), args.next()) else {
+        return Ok(None);
     };
-    if args.next().is_some() {
-        return Ok(Task::Unclear);
+    match name.as_str() {
+        "--help" => Ok(Some(Task::Help)),
+        _ => Ok(Some(Task::Count(name))),
     }
-    if name.as_str() == "--help" {
-        return Ok(Task::Help);
-    }
-    Ok(Task::Count(name))
 }

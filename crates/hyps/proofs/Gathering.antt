@@ -1,4 +1,4 @@
--- Terms taken from a frame and put before a list, one after the other: their images under a function, but for those left out.
+-- Terms taken from a stack and put before a list, one after the other: their images under a function, but for those left out.
 use Rattle.std.proofs.Common.{◌≡◌, ℕ, ◌+◌, ◌<◌, ◌≤◌, Bool, List, [], ◌∷◌, reverse, Ok, Err, Result, refl, ap, subst, inl, inr, arith}
 use mathlib.Core.List.{reverse_aux}
 use mathlib.Core.Option.{some}
@@ -42,7 +42,7 @@ module _ (p : Tm → List Tm → Bool) (f : Tm → Tm) where
       let b = nodes-poured us (put p (f u) vs) in
       omega arith
 
-  -- what is taken from the frame, the newest first, comes to the same as the list from the last to the first
+  -- what is taken from the stack, the newest first, comes to the same as the list from the last to the first
   poured-reverse : (us ds vs : List Tm) → poured p f (reverse_aux us ds) vs ≡ poured p f ds (sifted p f us vs)
   poured-reverse [] ds vs = refl
   poured-reverse (u ∷ us) ds vs = poured-reverse us (u ∷ ds) vs
@@ -50,8 +50,8 @@ module _ (p : Tm → List Tm → Bool) (f : Tm → Tm) where
   pub poured-sifted : (us vs : List Tm) → poured p f (reverse us) vs ≡ sifted p f us vs
   poured-sifted us vs = poured-reverse us [] vs
 
-  -- From the state s, with us on the frame, to t, with the numbers ns on it, n being the list so far.
-  --   ahead   the terms still on the frame
+  -- From the state s, with us on the stack, to t, with the numbers ns on it, n being the list so far.
+  --   ahead   the terms still on the stack
   --   list    the list so far
   --   grows   what was spent is no more than the nodes of the list so far
   --   ends    those ahead, put before the list so far, come to the goal
@@ -71,7 +71,7 @@ module _ (p : Tm → List Tm → Bool) (f : Tm → Tm) where
       let e : k.list ≡ goal = rw (none_stand (rw h at k.stand)) at k.ends in
       subst (λ vs. Made (nodes_tms vs) s t (IsList vs) n) e (record { grows = k.grows; stands = k.list_is })
 
-  -- m is taken from the frame
+  -- m is taken from the stack
   module _ {s t : State} {us : List Tm} {hs : List ℕ} {m n : ℕ} {ns : List ℕ} {goal : List Tm} (k : Gathering s t us hs n goal)
       (pop : hs ≡ m ∷ ns) where
     pub taken : Newest t.contents m ns k.ahead

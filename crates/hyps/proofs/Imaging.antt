@@ -1,16 +1,13 @@
 -- Images of terms, each once: how much room is needed at the peak.
-use Rattle.std.proofs.Common.{◌≡◌, ℕ, ◌+◌, ◌-◌, ◌*◌, ◌<◌, ◌≤◌, List, ◌∷◌, length, ap, ◌∙◌, inl, inr, arith}
+use Rattle.std.proofs.Common.{◌≡◌, ℕ, ◌+◌, ◌*◌, ◌<◌, ◌≤◌, List, ◌∷◌, length, ap, inl, inr, arith}
 use Rattle.hol.specs.Syntax.{Tm}
 use Rattle.hol.specs.Kernel.{in_hyps}
 use Rattle.hol.proofs.Tools.{decided}
 use Rattle.hol.proofs.Equality.{in_terms}
 use Rattle.store.specs.Measures.{nodes_tm, nodes_tms}
 use Rattle.store.specs.State.{State}
-use Rattle.stack.specs.Frames.{above, held, capacity}
-use Rattle.stack.specs.declared.frame.Frame.{Frame}
-use Rattle.stack.proofs.Words.{above-length}
+use Rattle.lent.specs.Piles.{Pile, spare}
 use Rattle.hyps.specs.Sifting.{put}
-use Rattle.hyps.proofs.Moving.{Moves, capacity-same}
 use Rattle.hyps.proofs.Spreading.{stand_length}
 use Rattle.hyps.proofs.Nodes.{length-nodes, member_nodes}
 use Rattle.hyps.proofs.Gathering.{Gathering, taken, nodes-poured}
@@ -34,25 +31,13 @@ module _ (f : Tm → Tm) {s t : State} {us : List Tm} {hs : List ℕ} {m n : ℕ
       let e = ap nodes_tms (rw v.is at k.ends) in
       omega arith
 
-  -- no room for it above the frame g, on which the others still lie
-  pub no_words : {g₀ g : Frame} → Moves g₀ g → ns ≡ held g
-      → length g.words.now - g.top.now < 4 * nodes_tm (taken in_hyps f k pop).first → capacity g₀ < 5 * nodes_tms us
-  no_words {g₀} {g} mv e h =
+  -- no room for it above the stack q, on which the others still lie
+  pub no_words : {q : Pile} → ns ≡ q.held → spare q < 4 * nodes_tm (taken in_hyps f k pop).first → q.capacity < 5 * nodes_tms us
+  no_words e h =
       let v = taken in_hyps f k pop in
       let a = stand_length v.rest_are in
-      let b = ap length e ∙ above-length g.words.now g.base (g.top.now - g.base) in
+      let b = ap length e in
       let c = length-nodes v.rest in
       let d = k.fewer in
       let i = ap nodes_tms v.is in
-      let l = mv.within.low in
-      let q = capacity-same mv.same in
       omega arith
-
--- fewer are on the frame once one is taken, whatever lies above the top
-pub shorter : (f g : Frame) {m : ℕ} (ws : List ℕ) → held f ≡ m ∷ held g
-    → length (above ws g.base (g.top.now - g.base)) < length (held f)
-shorter f g ws e =
-    let a = above-length ws g.base (g.top.now - g.base) in
-    let b = above-length g.words.now g.base (g.top.now - g.base) in
-    let c = ap length e in
-    omega arith

@@ -6,11 +6,9 @@ pub mod Seeking
 mod Leaving
 -- a term put before a list, or left out
 mod Putting
--- a frame from one moment to another
-mod Moving
--- the terms of a list pushed onto a frame
+-- the terms of a list pushed onto a stack
 mod Spreading
--- terms taken from a frame and put before a list
+-- terms taken from a stack and put before a list
 mod Gathering
 -- lists that come to union, remove and dedup
 mod Sifted

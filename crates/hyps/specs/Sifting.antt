@@ -1,13 +1,12 @@
 -- Lists that are built by putting one term after the other before a list, some left out.
-use Rattle.std.specs.Prelude.{◌≡◌, ℕ, ◌+◌, ◌<◌, Bool, true, false, cond, List, [], ◌∷◌, reverse, length, Result}
+use Rattle.std.specs.Prelude.{◌≡◌, ℕ, ◌+◌, ◌<◌, Bool, cond, List, [], ◌∷◌, reverse, length, Ok, Err, Result}
 use Rattle.std.proofs.Math.Option.{some}
 use Rattle.hol.specs.Syntax.{Tm}
 use Rattle.store.specs.Measures.{nodes_tm, nodes_tms}
 use Rattle.store.specs.State.{Contents, State}
 use Rattle.store.specs.Builds.{Made}
-use Rattle.stack.specs.Frames.{held, capacity}
 use Rattle.lent.specs.Answers.{Answers}
-use Rattle.stack.specs.declared.frame.Frame.{Frame}
+use Rattle.lent.specs.Piles.{Pile}
 use Rattle.lent.specs.declared.NoRoom.{NoRoom}
 
 -- u before vs, unless p leaves it out
@@ -33,10 +32,10 @@ pub data Stand (c : Contents) : List ℕ → List Tm → Type 0 where
   stand_none : Stand c [] []
   stand_more : {n : ℕ} {ns : List ℕ} {u : Tm} {us : List Tm} → c.term n ≡ some u → Stand c ns us → Stand c (n ∷ ns) (u ∷ us)
 
--- the terms us were pushed onto an empty frame; or there was no place for all of them
-abbrev pub Spreads : Contents → List Tm → Frame → Frame → Bool → Type 0
-Spreads c us f g true = Stand c (held g) (reverse us)
-Spreads c us f g false = capacity f < length us
+-- the terms us were pushed onto an empty stack; or there was no place for all of them
+abbrev pub Spreads : Contents → List Tm → Pile → Pile → Result (Unit {0}) NoRoom → Type 0
+Spreads c us p q (Ok x) = Stand c q.held (reverse us)
+Spreads c us p q (Err e) = p.capacity < length us
 
 abbrev pub IsTerm : Tm → Contents → ℕ → Type 0
 IsTerm u c n = c.term n ≡ some u

@@ -1,19 +1,18 @@
 // Lists of the images of terms under a map, each once.
-ghost use Rattle.std.specs.Prelude.{◌≡◌, ◌+◌, ◌-◌, ◌*◌, ◌<◌, ◌≤◌, ◌⊎◌, List, map as mapped, length};
+ghost use Rattle.std.specs.Prelude.{◌≡◌, ◌+◌, ◌*◌, ◌<◌, ◌⊎◌, List, map as mapped, length};
 ghost use Rattle.std.proofs.Math.Option.{some};
 ghost use Rattle.hol.specs.Syntax.{Tm};
 ghost use Rattle.hol.specs.Kernel.{in_hyps, dedup};
 ghost use Rattle.store.specs.Measures.{nodes_tm, nodes_tms};
 ghost use Rattle.store.specs.State.{Contents, Keeps};
 ghost use Rattle.store.specs.Builds.{Made};
-ghost use Rattle.stack.specs.Frames.{held, capacity, Within, Same, Restores};
 ghost use Rattle.lent.specs.Answers.{Answers};
 ghost use Rattle.hyps.specs.Sifting.{put, extra, poured, Stand, IsTerm, IsList, Lists};
 
 use super::members::contains;
 use super::sift::spread;
 use lent::NoRoom;
-use stack::frame::Frame;
+use lent::stack::Stack;
 use store::Store;
 
 // A function from terms to terms, by building in a store.
@@ -22,22 +21,14 @@ pub trait TermMap<S: Store> {
     ghost does: { Self → Contents → (Tm → Tm) → Type 0 };
 
     // The image of the term `t`, for at most as many nodes as it has.
-    fn image(
-        &self,
-        store: &mut S,
-        words: &mut [u64],
-        top: &mut usize,
-        t: u64,
-    ) -> Result<u64, NoRoom>
-        requires stack { top.old ≤ length words.old }
+    fn image(&self, store: &mut S, words: &mut [u64], t: u64) -> Result<u64, NoRoom>
         requires map { (f : Tm → Tm) × does self.now (S.Store.state store.old).contents f }
         requires term { (u : Tm) × ((S.Store.state store.old).contents.term t ≡ some u) }
-        ensures stack { Restores words.old top.old words.new top.new }
-        ensures cases { (f : Tm → Tm) (u : Tm)
+        ensures { (f : Tm → Tm) (u : Tm)
             → does self.now (S.Store.state store.old).contents f
             → (S.Store.state store.old).contents.term t ≡ some u
             → Answers
-            ((length words.old - top.old < 4 * nodes_tm u)
+            ((length words.old < 4 * nodes_tm u)
             ⊎ ((S.Store.state store.old).left < nodes_tm (f u)))
             (Made (nodes_tm (f u)) (S.Store.state store.old) (S.Store.state store.new) (IsTerm (f u)))
             result };
@@ -50,66 +41,57 @@ pub trait TermMap<S: Store> {
 fn put_image<S: Store, M: TermMap<S>>(
     store: &mut S,
     words: &mut [u64],
-    top: &mut usize,
     map: &M,
     t: u64,
     so_far: u64,
 ) -> Result<u64, NoRoom>
-    requires stack { top.old ≤ length words.old }
     requires map { (f : Tm → Tm) × M.does map.now (S.state store.old).contents f }
     requires term { (u : Tm) × ((S.state store.old).contents.term t ≡ some u) }
     requires list { (vs : List Tm) × ((S.state store.old).contents.terms so_far ≡ some vs) }
-    ensures stack { Restores words.old top.old words.new top.new }
-    ensures cases { (f : Tm → Tm) (u : Tm) (vs : List Tm)
+    ensures { (f : Tm → Tm) (u : Tm) (vs : List Tm)
         → M.does map.now (S.state store.old).contents f
         → (S.state store.old).contents.term t ≡ some u
         → (S.state store.old).contents.terms so_far ≡ some vs
         → Answers
-        ((length words.old - top.old < 4 * nodes_tm u)
+        ((length words.old < 4 * nodes_tm u)
         ⊎ ((S.state store.old).left < 1 + nodes_tm (f u)))
         (Made (extra in_hyps (f u) vs) (S.state store.old) (S.state store.new) (IsList (put in_hyps (f u) vs)))
         result }
 {
     let mark = store.mark();
-    let image = map.image(store, words, top, t)?;
+    let image = map.image(store, words, t)?;
     if contains(store, image, so_far) {
         store.release(mark);
         return Ok(so_far);
     }
-    match store.cons_term(image, so_far) {
-        Some(list) => Ok(list),
-        None => Err(NoRoom),
-    }
+    store.cons_term(image, so_far).ok_or(NoRoom)
 }
 
-// The images of the terms on the frame, the newest first, each put before the list so far, which is `start` at first, unless it is in it.
+// The loop is that of `sift::gather` but for what is put and what may be short: an image needs words and room at its peak, a term that is there
+// needs neither. A trait over both would have to carry both bounds, and say more than the two loops.
+//
+// The images of the terms on the stack, the newest first, each put before the list so far, which is `start` at first, unless it is in it.
 fn gather_images<S: Store, M: TermMap<S>>(
     store: &mut S,
-    f: &mut Frame<'_>,
+    stack: &mut Stack<'_>,
     map: &M,
     start: u64,
 ) -> Result<u64, NoRoom>
-    requires within { Within f.old }
     requires map { (h : Tm → Tm) × M.does map.now (S.state store.old).contents h }
-    requires stand { (us : List Tm) × Stand (S.state store.old).contents (held f.old) us }
+    requires stand { (us : List Tm) × Stand (S.state store.old).contents stack.old.held us }
     requires list { (vs : List Tm) × ((S.state store.old).contents.terms start ≡ some vs) }
-    ensures within { Within f.new }
-    ensures same { Same f.old f.new }
-    ensures top_name { f.new.top.ghost_name ≡ f.old.top.ghost_name }
-    ensures words_name { f.new.words.ghost_name ≡ f.old.words.ghost_name }
-    ensures cases { (h : Tm → Tm) (us vs : List Tm)
+    ensures { (h : Tm → Tm) (us vs : List Tm)
         → M.does map.now (S.state store.old).contents h
-        → Stand (S.state store.old).contents (held f.old) us
+        → Stand (S.state store.old).contents stack.old.held us
         → (S.state store.old).contents.terms start ≡ some vs
         → Lists
-        ((capacity f.old < 5 * nodes_tms us)
+        ((stack.old.capacity < 5 * nodes_tms us)
         ⊎ ((S.state store.old).left < 2 * nodes_tms (poured in_hyps h us vs)))
         (poured in_hyps h us vs) (S.state store.old) (S.state store.new) result }
 {
     let mut list = start;
-    while let Some(t) = f.pop() {
-        let mut above = *f.top;
-        list = put_image(store, f.words, &mut above, map, t, list)?;
+    while let Some(t) = stack.pop() {
+        list = put_image(store, &mut stack.words[stack.len..], map, t, list)?;
     }
     Ok(list)
 }
@@ -119,26 +101,21 @@ fn gather_images<S: Store, M: TermMap<S>>(
 pub fn map_dedup<S: Store, M: TermMap<S>>(
     store: &mut S,
     words: &mut [u64],
-    top: &mut usize,
     map: &M,
     hs: u64,
 ) -> Result<u64, NoRoom>
-    requires stack { top.old ≤ length words.old }
     requires map { (f : Tm → Tm) × M.does map.now (S.state store.old).contents f }
     requires list { (us : List Tm) × ((S.state store.old).contents.terms hs ≡ some us) }
-    ensures stack { Restores words.old top.old words.new top.new }
-    ensures cases { (f : Tm → Tm) (us : List Tm)
+    ensures { (f : Tm → Tm) (us : List Tm)
         → M.does map.now (S.state store.old).contents f
         → (S.state store.old).contents.terms hs ≡ some us
         → Lists
-        ((length words.old - top.old < 5 * nodes_tms us)
+        ((length words.old < 5 * nodes_tms us)
         ⊎ ((S.state store.old).left < 2 * nodes_tms (dedup (mapped f us))))
         (dedup (mapped f us)) (S.state store.old) (S.state store.new) result }
 {
     let empty = store.empty();
-    let mut f = Frame::new(words, top);
-    if !spread(store, &mut f, hs) {
-        return Err(NoRoom);
-    }
-    gather_images(store, &mut f, map, empty)
+    let mut stack = Stack::new(words);
+    spread(store, &mut stack, hs)?;
+    gather_images(store, &mut stack, map, empty)
 }

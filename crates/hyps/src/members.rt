@@ -1,26 +1,13 @@
 // What is in a list of terms.
-ghost use Rattle.std.specs.Prelude.{◌≡◌, List, Some};
+ghost use Rattle.std.specs.Prelude.{◌≡◌, List};
 ghost use Rattle.std.proofs.Math.Option.{some};
 ghost use Rattle.hol.specs.Syntax.{Tm};
 ghost use Rattle.hol.specs.Kernel.{in_hyps};
 ghost use Rattle.store.specs.State.{Stays};
-ghost use Rattle.store.specs.Views.{TermsSays};
 
 use store::Store;
 use store::view::ListView;
-
-// How a list of terms is made.
-pub fn view<S: Store>(store: &S, list: u64) -> ListView
-    requires stands { (us : List Tm) × ((S.state store.now).contents.terms list ≡ some us) }
-    ensures { (us : List Tm)
-        → (S.state store.now).contents.terms list ≡ some us
-        → TermsSays (S.state store.now).contents us (Some result) }
-{
-    match store.view_terms(list) {
-        Some(v) => v,
-        None => ListView::Nil,
-    }
-}
+use walk::look::terms_at;
 
 // Whether the list `hs` has the term `t`.
 pub fn contains<S: Store>(store: &mut S, t: u64, hs: u64) -> bool
@@ -32,8 +19,9 @@ pub fn contains<S: Store>(store: &mut S, t: u64, hs: u64) -> bool
         → (S.state store.old).contents.terms hs ≡ some us
         → result ≡ in_hyps u us }
 {
+    // The list lies in the store, in which the body compares: no iterator can borrow it meanwhile.
     let mut rest = hs;
-    while let ListView::Cons(h, more) = view(store, rest) {
+    while let ListView::Cons(h, more) = terms_at(store, rest) {
         if store.same(t, h) {
             return true;
         }

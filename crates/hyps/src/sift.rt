@@ -1,21 +1,21 @@
 // Putting the terms of a list before another list, from the last to the first, and leaving some out.
-ghost use Rattle.std.specs.Prelude.{◌≡◌, ◌-◌, ◌<◌, ◌≤◌, Bool, ◌⊎◌, List, [], length};
+ghost use Rattle.std.specs.Prelude.{◌≡◌, ◌<◌, Bool, ◌⊎◌, List, [], length};
 ghost use Rattle.std.proofs.Math.Option.{some};
 ghost use Rattle.hol.specs.Syntax.{Tm};
 ghost use Rattle.store.specs.Measures.{nodes_tms};
 ghost use Rattle.store.specs.State.{Stays};
 ghost use Rattle.store.specs.Builds.{Made};
-ghost use Rattle.stack.specs.Frames.{held, Within, Same, Restores};
 ghost use Rattle.lent.specs.Answers.{Answers};
 ghost use Rattle.hyps.specs.Sifting.{put, extra, sifted, poured, Stand, Spreads, IsList, Lists};
 ghost use Rattle.hyps.specs.Leaving.{Leaves};
 
 use super::left_out::LeftOut;
-use super::members::{contains, view};
+use super::members::contains;
 use lent::NoRoom;
-use stack::frame::Frame;
+use lent::stack::Stack;
 use store::Store;
 use store::view::ListView;
+use walk::look::terms_at;
 
 // Whether the term `t` is left out where it would be put before the list `so_far`.
 fn leaves_out<S: Store>(store: &mut S, left_out: LeftOut, t: u64, so_far: u64) -> bool
@@ -58,60 +58,47 @@ fn put_before<S: Store>(
     if leaves_out(store, left_out, t, so_far) {
         return Ok(so_far);
     }
-    match store.cons_term(t, so_far) {
-        Some(list) => Ok(list),
-        None => Err(NoRoom),
-    }
+    store.cons_term(t, so_far).ok_or(NoRoom)
 }
 
-// The terms of the list `hs` onto an empty frame, the last of them the newest; false if the frame is too small.
-pub fn spread<S: Store>(store: &S, f: &mut Frame<'_>, hs: u64) -> bool
-    requires within { Within f.old }
-    requires empty { held f.old ≡ [] }
+// The terms of the list `hs` onto an empty stack, the last of them the newest.
+pub fn spread<S: Store>(store: &S, stack: &mut Stack<'_>, hs: u64) -> Result<(), NoRoom>
+    requires empty { stack.old.held ≡ [] }
     requires list { (us : List Tm) × ((S.state store.now).contents.terms hs ≡ some us) }
-    ensures within { Within f.new }
-    ensures same { Same f.old f.new }
-    ensures top_name { f.new.top.ghost_name ≡ f.old.top.ghost_name }
-    ensures words_name { f.new.words.ghost_name ≡ f.old.words.ghost_name }
+    ensures capacity { stack.new.capacity ≡ stack.old.capacity }
     ensures cases { (us : List Tm)
         → (S.state store.now).contents.terms hs ≡ some us
-        → Spreads (S.state store.now).contents us f.old f.new result }
+        → Spreads (S.state store.now).contents us stack.old stack.new result }
 {
+    // The list lies in the store, by numbers: an iterator over it would say of each number what `terms_at` says, and no less.
     let mut rest = hs;
-    while let ListView::Cons(h, more) = view(store, rest) {
-        if !f.push(h) {
-            return false;
-        }
+    while let ListView::Cons(h, more) = terms_at(store, rest) {
+        stack.push(h)?;
         rest = more;
     }
-    true
+    Ok(())
 }
 
-// The terms on the frame, the newest first, each put before the list so far, which is `start` at first, unless it is left out.
+// The terms on the stack, the newest first, each put before the list so far, which is `start` at first, unless it is left out.
 fn gather<S: Store>(
     store: &mut S,
-    f: &mut Frame<'_>,
+    stack: &mut Stack<'_>,
     left_out: LeftOut,
     start: u64,
 ) -> Result<u64, NoRoom>
-    requires within { Within f.old }
     requires test { (p : Tm → List Tm → Bool) × Leaves (S.state store.old).contents left_out p }
-    requires stand { (us : List Tm) × Stand (S.state store.old).contents (held f.old) us }
+    requires stand { (us : List Tm) × Stand (S.state store.old).contents stack.old.held us }
     requires list { (vs : List Tm) × ((S.state store.old).contents.terms start ≡ some vs) }
-    ensures within { Within f.new }
-    ensures same { Same f.old f.new }
-    ensures top_name { f.new.top.ghost_name ≡ f.old.top.ghost_name }
-    ensures words_name { f.new.words.ghost_name ≡ f.old.words.ghost_name }
-    ensures cases { (p : Tm → List Tm → Bool) (us vs : List Tm)
+    ensures { (p : Tm → List Tm → Bool) (us vs : List Tm)
         → Leaves (S.state store.old).contents left_out p
-        → Stand (S.state store.old).contents (held f.old) us
+        → Stand (S.state store.old).contents stack.old.held us
         → (S.state store.old).contents.terms start ≡ some vs
         → Lists
         ((S.state store.old).left < nodes_tms (poured p (λ u. u) us vs))
         (poured p (λ u. u) us vs) (S.state store.old) (S.state store.new) result }
 {
     let mut list = start;
-    while let Some(t) = f.pop() {
+    while let Some(t) = stack.pop() {
         list = put_before(store, left_out, t, list)?;
     }
     Ok(list)
@@ -121,28 +108,23 @@ fn gather<S: Store>(
 pub fn sift<S: Store>(
     store: &mut S,
     words: &mut [u64],
-    top: &mut usize,
     left_out: LeftOut,
     hs: u64,
     start: u64,
 ) -> Result<u64, NoRoom>
-    requires stack { top.old ≤ length words.old }
     requires test { (p : Tm → List Tm → Bool) × Leaves (S.state store.old).contents left_out p }
     requires terms { (us : List Tm) × ((S.state store.old).contents.terms hs ≡ some us) }
     requires list { (vs : List Tm) × ((S.state store.old).contents.terms start ≡ some vs) }
-    ensures stack { Restores words.old top.old words.new top.new }
-    ensures cases { (p : Tm → List Tm → Bool) (us vs : List Tm)
+    ensures { (p : Tm → List Tm → Bool) (us vs : List Tm)
         → Leaves (S.state store.old).contents left_out p
         → (S.state store.old).contents.terms hs ≡ some us
         → (S.state store.old).contents.terms start ≡ some vs
         → Lists
-        ((length words.old - top.old < nodes_tms us)
+        ((length words.old < nodes_tms us)
         ⊎ ((S.state store.old).left < nodes_tms (sifted p (λ u. u) us vs)))
         (sifted p (λ u. u) us vs) (S.state store.old) (S.state store.new) result }
 {
-    let mut f = Frame::new(words, top);
-    if !spread(store, &mut f, hs) {
-        return Err(NoRoom);
-    }
-    gather(store, &mut f, left_out, start)
+    let mut stack = Stack::new(words);
+    spread(store, &mut stack, hs)?;
+    gather(store, &mut stack, left_out, start)
 }

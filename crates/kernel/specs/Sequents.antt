@@ -1,5 +1,5 @@
 -- Which sequent a sequent by numbers is, and what a rule says of its answer.
-use Rattle.std.specs.Prelude.{◌≡◌, ℕ, ◌+◌, ◌*◌, Bool, List, Option}
+use Rattle.std.specs.Prelude.{◌≡◌, ℕ, ◌+◌, ◌*◌, List, Result}
 use Rattle.std.proofs.Math.Option.{Option as Maybe, some}
 use Rattle.hol.specs.Base.{option}
 use Rattle.hol.specs.Syntax.{Seq}
@@ -8,7 +8,8 @@ use Rattle.hol.specs.Rules.{Derives}
 use Rattle.hol.specs.Says.{Wf, AllDerived}
 use Rattle.store.specs.Measures.{nodes_tm, nodes_tms}
 use Rattle.store.specs.State.{Contents, State, Grows}
-use Rattle.workspace.specs.Space.{Lacks, Serves}
+use Rattle.workspace.specs.Refusals.{Lacks, Serves}
+use Rattle.workspace.specs.declared.refusal.Refusal.{Refusal}
 use Rattle.kernel.specs.declared.sequent.Sequent.{Sequent}
 
 -- the sequent p is what q stands for
@@ -32,7 +33,7 @@ abbrev pub price : Maybe Seq → ℕ
 price o = option o 0 (λ p. 2 * nodes_seq p)
 
 -- A rule with the premises ps in the theory th, with so many words lent, of which the definition gives o: it finds what o is; or it
--- does not fit, and o is none, and then nothing kept is lost and no more spent than what was built beside; or it is refused for want of room, and then there were too few words for `need` nodes, or fewer nodes
--- left than what is built beside and the price.
-abbrev pub Gives : Theory → List Seq → (words need built : ℕ) → State → State → Maybe Seq → Bool → Option Sequent → Type 0
-Gives th ps words need built s t o full r = Serves (Lacks words need s.left (built + price o)) (Grows built s t) (Found th ps built s t) o full r
+-- does not fit, and o is none, and then nothing kept is lost and no more spent than what was built beside; or it is refused for want of
+-- room, and then there were too few words for `need` nodes, or fewer nodes left than what is built beside and the price.
+abbrev pub Gives : Theory → List Seq → (words need built : ℕ) → State → State → Maybe Seq → Result Sequent Refusal → Type 0
+Gives th ps words need built s t o r = Serves (Lacks words need s.left (built + price o)) (Grows built s t) (Found th ps built s t) o r

@@ -1,7 +1,7 @@
 -- What pushes and a cut do to the words of a stack, as lists.
 use Rattle.std.proofs.Common.{◌≡◌, refl, sym, ap, ◌∙◌, arith, take-take, ℕ, ◌+◌, ◌-◌, ◌≤◌, List, [], ◌∷◌, ◌++◌, length, drop, take, reverse}
 use Rattle.std.proofs.lemmas.List.{append_assoc, reverse-append, length-reverse, length-take-le, length-drop, take-append-drop}
-use Rattle.std.proofs.lemmas.Slice.{take-put_mid}
+use Rattle.std.proofs.lemmas.Slice.{take-put_mid, take-put_mid_below}
 use Rattle.std.proofs.Math.Seq.{drop-append_seam}
 use borrow.Rule.Slice.PartMut.{put_mid, mid_of, same_len_mid}
 use Rattle.lent.specs.Piles.{Pile, pile, spare, cut, onto}
@@ -36,5 +36,20 @@ cut_to ws n m h l =
 pub pile-length : (ws : List ℕ) (n : ℕ) → n ≤ length ws → length (pile ws n).held ≡ n
 pile-length ws n h = length-reverse (take n ws) ∙ length-take-le n ws h
 
-pub pile-spare : (ws : List ℕ) (n : ℕ) (p : Pile) → n ≤ length ws → pile ws n ≡ p → length (drop n ws) ≡ spare p
-pile-spare ws n p h e = rw (← e, length-drop n ws, pile-length ws n h) refl
+pub pile-spare : (ws : List ℕ) (n : ℕ) (p : Pile) → n ≤ length ws → pile ws n ≡ p → length (take (length ws - n) (drop n ws)) ≡ spare p
+pile-spare ws n p h e =
+    let l = length-drop n ws in
+    rw (← e, length-take-le (length ws - n) (drop n ws) (omega (arith, l)), pile-length ws n h) refl
+
+-- what is on a stack of n words stays where the words behind them are written
+pub pile_lent : (ws vs : List ℕ) (n k : ℕ) (p : Pile) → n ≤ length ws → pile ws n ≡ p → reverse (take n (put_mid n k ws vs)) ≡ p.held
+pile_lent ws vs n k p h e = ap reverse (take-put_mid_below n k ws vs n (omega arith) h) ∙ ap (λ o. o.held) e
+
+-- and it can hold as much
+pub kept_below : (ws vs : List ℕ) (n : ℕ) (p : Pile) → n ≤ length ws → pile ws n ≡ p → length vs ≡ length (mid_of n (length ws - n) ws)
+    → (reverse (take n (put_mid n (length ws - n) ws vs)) ≡ p.held) × (length (put_mid n (length ws - n) ws vs) ≡ p.capacity)
+kept_below ws vs n p h e l =
+    let k = length ws - n in (
+      pile_lent ws vs n k p h e,
+      same_len_mid n k ws vs l ∙ ap (λ o. o.capacity) e,
+    )

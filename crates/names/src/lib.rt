@@ -15,8 +15,8 @@ use store::view::NameView;
 fn tail_after<S: Store>(store: &S, name: u64, byte: u8) -> Option<u64>
     ensures { (w : Word) → (S.state store.now).contents.word name ≡ some w → TailSays (S.state store.now).contents byte w result }
 {
-    match store.view_name(name)? {
-        NameView::Byte(first, tail) if first == byte => Some(tail),
+    match store.view_name(name) {
+        Some(NameView::Byte(first, tail)) if first == byte => Some(tail),
         _ => None,
     }
 }
@@ -25,13 +25,7 @@ fn tail_after<S: Store>(store: &S, name: u64, byte: u8) -> Option<u64>
 fn is_empty<S: Store>(store: &S, name: u64) -> bool
     ensures { (w : Word) → (S.state store.now).contents.word name ≡ some w → result ≡ same_word w [] }
 {
-    match store.view_name(name) {
-        Some(view) => match view {
-            NameView::Empty => true,
-            NameView::Byte(_, _) => false,
-        }
-        None => false,
-    }
+    matches!(store.view_name(name), Some(NameView::Empty))
 }
 
 // Whether the name that a number stands for has these bytes.

@@ -12,9 +12,9 @@ pub mod Adding
 pub mod Reading
 -- two numbers with nodes
 pub mod Agreeing
--- pairs of numbers in words
+-- pairs of numbers on a stack
 pub mod Pairs
--- comparing step by step
+-- what holds while pairs are still to be compared
 pub mod Stepping
 -- the loop that compares
 pub mod Looping

@@ -1,9 +1,11 @@
 -- Names: the empty one, and one more byte before a name.
-use Rattle.std.proofs.Common.{◌≡◌, ℕ, suc, ◌-◌, ◌<◌, ◌≤◌, List, [], ◌∷◌, length, get_or, drop, sym, ap, ◌∙◌, arith, drop-cons, lt-ltb}
+use Rattle.std.proofs.Common.{◌≡◌, ℕ, ◌<◌, ◌≤◌, ◌+◌, List, [], ◌∷◌, ◌++◌, length, get_or, sym, ap, ◌∙◌, arith, lt-ltb}
+use Rattle.std.proofs.lemmas.List.{append_assoc, append-nil, length-append}
+use Rattle.std.proofs.Math.Seq.{get_or-append_seam}
 use mathlib.Core.Option.{some}
-use lib.Seq.{drop-length}
 use Rattle.hol.specs.Base.{Word, bind}
 use Rattle.hol.specs.Syntax.{tyvar, tnil}
+use Rattle.store.specs.Builds.{Made, IsWord}
 use Rattle.store.specs.State.{State, Grows}
 use Rattle.nodes.specs.declared.kind.Kind.TheVariants.{Byte, TypeVariable}
 use Rattle.nodes.specs.Items.{name, ty, as_word, as_types, as_terms}
@@ -23,24 +25,42 @@ zero_types ws u = ap (λ o. bind o as_types) (items_zero (rows ws u))
 pub zero_terms : (ws : List ℕ) (u : ℕ) → (held ws u).terms 0 ≡ some []
 zero_terms ws u = ap (λ o. bind o as_terms) (items_zero (rows ws u))
 
--- behind the last byte stands the empty name
-pub names_none : (s : State) (w : Word) → s.contents.word 0 ≡ some []
-    → Grows (length w - length w) s s × (s.contents.word 0 ≡ some (drop (length w) w))
-names_none s w e =
-    let none_spent : length w - length w ≡ 0 = omega arith in (rw none_spent (grows_none s), e ∙ ap some (sym (drop-length w)))
+-- n is the name of the last bytes of w; those in `rest` come before them
+pub record Named (s t : State) (w rest : Word) (n : ℕ) : Type 0 where
+  pub last : Word
+  pub is : w ≡ rest ++ last
+  pub grows : Grows (length last) s t
+  pub stands : t.contents.word n ≡ some last
 
--- the byte at i - 1 before what stands from i on
-pub names_more : (s t u : State) (w : Word) (i n k b : ℕ) → 0 < i → i ≤ length w → b ≡ get_or w (i - 1) 0 → b < 256
-    → Grows (length w - i) s t × (t.contents.word n ≡ some (drop i w)) → Grows 1 t u → IsMade Byte b n u.contents k
-    → Grows (length w - (i - 1)) s u × (u.contents.word k ≡ some (drop (i - 1) w))
-names_more s t u w i n k b pos le is byte h g made =
-    let after : suc (i - 1) ≡ i = omega arith in
-    let rest : u.contents.word n ≡ some (drop (suc (i - 1)) w) = g.keeps.word n _ h.1 ∙ ap (λ j. some (drop j w)) (sym after) in
-    let first : drop (i - 1) w ≡ b ∷ drop (suc (i - 1)) w =
-    drop-cons w (i - 1) 0 (omega arith) ∙ ap (λ x. x ∷ drop (suc (i - 1)) w) (sym is) in (
-      grows_on (length w - i) 1 (length w - (i - 1)) s t u (omega arith) h.0 g,
-      made (name b (drop (suc (i - 1)) w)) (made_at u.contents b n (m_byte (lt-ltb b 256 byte) rest)) ∙ ap some (sym first),
-    )
+-- behind the last byte stands the empty name
+pub names_none : (s : State) (w : Word) → s.contents.word 0 ≡ some [] → Named s s w w 0
+names_none s w e = record { last = []; is = sym (append-nil w); grows = grows_none s; stands = e }
+
+module _ {s t : State} {w before : Word} {n : ℕ} (rest : Word) (b : ℕ) (now : Named s t w before n) (e : before ≡ rest ++ b ∷ []) where
+  -- one more byte before them
+  pub names_more : (u : State) (k : ℕ) → ((i : ℕ) → get_or w i 0 < 256) → Grows 1 t u → IsMade Byte b n u.contents k → Named s u w rest k
+  names_more u k bytes g made =
+      let is : w ≡ rest ++ (b ∷ now.last) = now.is ∙ (ap (λ xs. xs ++ now.last) e ∙ append_assoc rest (b ∷ []) now.last) in
+      let at : get_or w (length rest) 0 ≡ b = ap (λ xs. get_or xs (length rest) 0) is ∙ get_or-append_seam rest b now.last 0 in
+      let byte : b < 256 = omega (arith, at, bytes (length rest)) in
+      record {
+        last = b ∷ now.last;
+        is = is;
+        grows = grows_on (length now.last) 1 (length (b ∷ now.last)) s t u (omega arith) now.grows g;
+        stands = made (name b now.last) (made_at u.contents b n (m_byte (lt-ltb b 256 byte) (g.keeps.word n _ now.stands)));
+      }
+
+  -- there is room for it
+  pub names_room : length w ≤ s.left → t.left < 1 → ⊥
+  names_room fits short =
+      let l : length w ≡ length before + length now.last = ap length now.is ∙ length-append before now.last in
+      let m : length before ≡ length rest + 1 = ap length e ∙ length-append rest (b ∷ []) in
+      omega (arith, now.grows.cost)
+
+-- no byte is left
+pub names_all : {s t : State} {w : Word} {n : ℕ} (rest : Word) → Named s t w rest n → length rest ≡ 0 → Made (length w) s t (IsWord w) n
+names_all [] now e = rw now.is (record { grows = now.grows; stands = now.stands })
+names_all (b ∷ rest) now e = absurd (omega arith)
 
 -- the type variable of a name that was built before
 pub names_letter : (t u : State) (w : Word) (n k : ℕ) → t.contents.word n ≡ some w → u.contents.word 0 ≡ some [] → Grows 1 t u

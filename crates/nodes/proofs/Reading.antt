@@ -1,5 +1,5 @@
 -- Reading a number: its node shows what it stands for, and has its size.
-use Rattle.std.proofs.Common.{◌≡◌, ℕ, ◌+◌, ◌-◌, ◌^◌, min, true, false, cond, List, [], ◌∷◌, length, Some, None, Option as Answer, sym, refl, ap, ◌∙◌, subst, inl, inr, arith}
+use Rattle.std.proofs.Common.{◌≡◌, ℕ, ◌+◌, ◌-◌, ◌^◌, min, true, false, cond, List, [], ◌∷◌, length, Some, None, Option as Answer, MatchOption, sym, refl, ap, ◌∙◌, subst, inl, inr, arith}
 use mathlib.Core.Option.{some}
 use Rattle.hol.specs.Base.{Word}
 use Rattle.hol.specs.Syntax.{Tys, tnil, tcons, Tm}
@@ -63,6 +63,12 @@ size_read ds n =
 
 pub size_of : (ds : List (Answer Node)) (n : ℕ) {o : Answer Node} → o ≡ look ds n → Sized (contents (items ds)) n (size_at o)
 size_of ds n e = subst (λ o. Sized (contents (items ds)) n (size_at o)) (sym e) (size_read ds n)
+
+-- the same by the answer of a reading
+pub size_asked : (ds : List (Answer Node)) (n : ℕ) (o : Answer Node) (r : ℕ) {P : Node → Type 0} → o ≡ look ds n → MatchOption o (r ≡ 0) P
+    → ((d : Node) → P d → r ≡ d.size) → Sized (contents (items ds)) n r
+size_asked ds n None r e h size = rw h (size_of ds n e)
+size_asked ds n (Some d) r e h size = rw (size d h) (size_of ds n e)
 
 -- one more than the parts that are counted, as saturating sums give it
 size-made : {c : Contents} {k : Kind} {x y : ℕ} {i : Item} (a b : ℕ) → (counts_first k ≡ true → Sized c x a) → Sized c y b

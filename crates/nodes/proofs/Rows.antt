@@ -1,10 +1,13 @@
 -- Which nodes the words hold, after a word was written and after a node was added; which node a number has.
-use Rattle.std.proofs.Common.{◌≡◌, ℕ, zero, suc, ◌+◌, ◌-◌, ◌*◌, ◌<◌, ◌≤◌, ◌≢◌, List, [], ◌∷◌, length, get_or, set, Some, None, Option, sym, refl, ap, ◌∙◌, subst, inl, inr, le_of_suc-le-suc, eq-or-lt_of_le, add-one, arith, length-set, get_or-set_other, get_or-set_same, eq-eqb, ne_eqb}
+use Rattle.std.proofs.Common.{◌≡◌, ℕ, zero, suc, ◌+◌, ◌-◌, ◌*◌, ◌/◌, ◌<◌, ◌≤◌, ◌≢◌, List, [], ◌∷◌, length, take, get_or, set, Some, None, Option, sym, refl, ap, ◌∙◌, subst, inl, inr, le_of_suc-le-suc, eq-or-lt_of_le, add-one, arith, length-set, get_or-set_other, get_or-set_same, eq-eqb, ne_eqb}
+use Rattle.std.proofs.lemmas.List.{get_or-take, length-take-le}
+use denote.Enum.Declared.{tag_of}
+use Rattle.nodes.specs.contracts.kind.Kind.{the_type}
 use Rattle.nodes.specs.declared.kind.Kind.{Kind}
 use Rattle.nodes.specs.declared.kind.Kind.TheVariants.{Byte, TypeVariable, TypeNamed, TypeCell, Free, Bound, Constant, Apply, Lambda, TermCell}
 use Rattle.nodes.specs.declared.node.Node.{Node}
 use Rattle.nodes.specs.Kinds.{encode, decode}
-use Rattle.nodes.specs.Table.{of_kind, node_at, rows, look}
+use Rattle.nodes.specs.Table.{of_kind, node_at, rows, all_rows, look}
 
 -- a write behind the first k nodes leaves them
 pub rows-set : (ws : List ℕ) (k i v : ℕ) → 4 * k ≤ i → rows (set ws i v) k ≡ rows ws k
@@ -34,6 +37,19 @@ decode-encode Constant = refl
 decode-encode Apply = refl
 decode-encode Lambda = refl
 decode-encode TermCell = refl
+
+-- the word of a kind in the table
+pub kind_code : (k : Kind) → tag_of the_type k ≡ encode k
+kind_code Byte = refl
+kind_code TypeVariable = refl
+kind_code TypeNamed = refl
+kind_code TypeCell = refl
+kind_code Free = refl
+kind_code Bound = refl
+kind_code Constant = refl
+kind_code Apply = refl
+kind_code Lambda = refl
+kind_code TermCell = refl
 
 joined : {o : Option Kind} {d : Node} {x y z : ℕ} {ds es : List (Option Node)} → o ≡ Some d.kind → x ≡ d.x → y ≡ d.y → z ≡ d.size → ds ≡ es
     → of_kind o x y z ∷ ds ≡ Some d ∷ es
@@ -107,3 +123,26 @@ pub look_read : (ws : List ℕ) (k n : ℕ) (o : Option Kind) → n ≢ 0 → n 
 look_read ws k n o ne le e =
     let m : suc (n - 1) ≡ n = omega arith in
     rw e (sym (look-rows ws k (n - 1) (omega arith)) ∙ ap (look (rows ws k)) m)
+
+-- nodes of words that begin alike
+pub rows_take : (ws : List ℕ) (n k : ℕ) → 4 * k ≤ n → rows (take n ws) k ≡ rows ws k
+rows_take ws n zero h = refl
+rows_take ws n (suc k) h =
+    let below : 4 * k ≤ n = omega arith in
+    cc (
+      get_or-take n ws (4 * k) 0 (omega arith),
+      get_or-take n ws (4 * k + 1) 0 (omega arith),
+      get_or-take n ws (4 * k + 2) 0 (omega arith),
+      get_or-take n ws (4 * k + 3) 0 (omega arith),
+      rows_take ws n k below,
+    )
+
+-- the words of the first n nodes
+pub rows-front : (ws : List ℕ) (n : ℕ) → 4 * n ≤ length ws → all_rows (take (4 * n) ws) ≡ rows ws n
+rows-front ws n h =
+    let e : length (take (4 * n) ws) / 4 ≡ n = omega (arith, length-take-le (4 * n) ws h) in rw e (rows_take ws (4 * n) n (omega arith))
+
+-- they stay where only the words behind them are written
+pub rows_kept : (ws vs : List ℕ) (n : ℕ) → take (4 * n) vs ≡ take (4 * n) ws → (k : ℕ) → k ≤ n → rows vs k ≡ rows ws k
+rows_kept ws vs n e k h =
+    sym (rows_take vs (4 * n) k (omega arith)) ∙ ap (λ xs. rows xs k) e ∙ rows_take ws (4 * n) k (omega arith)

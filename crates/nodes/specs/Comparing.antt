@@ -1,10 +1,10 @@
 -- Comparing two numbers, by f, which says what numbers stand for.
 use Rattle.std.proofs.Math.Option.{Option, some}
-use Rattle.std.specs.Prelude.{◌≡◌, ℕ, ◌<◌, ◌≤◌, true, false}
+use Rattle.std.specs.Prelude.{◌≡◌, ℕ, ◌<◌, ◌≤◌, true, false, Some, None, Option as Answer}
 use Rattle.nodes.specs.declared.node.Node.{Node}
 use Rattle.nodes.specs.declared.pair.Pair.{Pair}
 use Rattle.nodes.specs.declared.pair.Rest.{Rest}
-use Rattle.nodes.specs.declared.pair.Rest.TheVariants.{Differ, Second, Both}
+use Rattle.nodes.specs.declared.pair.Rest.TheVariants.{Second, Both}
 use Rattle.nodes.specs.Items.{Item}
 use Rattle.nodes.specs.Kinds.{first_is_node}
 
@@ -36,7 +36,8 @@ pub record TwoLeft (f : ℕ → Option Item) (n : ℕ) (p q r : Pair) : Type 0 w
   pub sound : f q.a ≡ f q.b → f r.a ≡ f r.b → f p.a ≡ f p.b
   pub complete : Same f p.a p.b → Same f q.a q.b × Same f r.a r.b
 
-abbrev pub RestSays : (ℕ → Option Item) → ℕ → Pair → Rest → Type 0
-RestSays f n p Differ = Same f p.a p.b → ⊥
-RestSays f n p (Second q) = OneLeft f n p q
-RestSays f n p (Both q r) = TwoLeft f n p q r
+-- what is left of the pair p; or its numbers do not stand for the same
+abbrev pub RestSays : (ℕ → Option Item) → ℕ → Pair → Answer Rest → Type 0
+RestSays f n p None = Same f p.a p.b → ⊥
+RestSays f n p (Some (Second q)) = OneLeft f n p q
+RestSays f n p (Some (Both q r)) = TwoLeft f n p q r

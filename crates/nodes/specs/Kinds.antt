@@ -1,6 +1,8 @@
 -- The kinds of nodes: the words that stand for them, and what their first part is.
-use Rattle.std.specs.Prelude.{ℕ, Bool, true, false, cond, Some, None, Option, ◌==◌}
+use Rattle.std.specs.Prelude.{ℕ, Bool, true, false, ◌≡◌, cond, Some, None, Option, Result, ◌==◌}
+use Rattle.std.specs.Result.{result_ok}
 use Rattle.nodes.specs.declared.kind.Kind.{Kind}
+use Rattle.nodes.specs.declared.kind.UnknownKind.{UnknownKind}
 use Rattle.nodes.specs.declared.kind.Kind.TheVariants.{Byte, TypeVariable, TypeNamed, TypeCell, Free, Bound, Constant, Apply, Lambda, TermCell}
 
 -- the word of a kind
@@ -25,6 +27,10 @@ abbrev pub decode : ℕ → Option Kind
 decode n =
     or_kind Byte n (or_kind TypeVariable n (or_kind TypeNamed n (or_kind TypeCell n (or_kind Free n
     (or_kind Bound n (or_kind Constant n (or_kind Apply n (or_kind Lambda n (or_kind TermCell n None)))))))))
+
+-- the result is the kind of this word, or an error where it has none
+abbrev pub Decodes : ℕ → Result Kind UnknownKind → Type 0
+Decodes n r = result_ok r ≡ decode n
 
 -- is the first part counted in the size? Not a byte, a bound variable's number or a name.
 abbrev pub counts_first : Kind → Bool

@@ -19,6 +19,10 @@ abbrev pub rows : List ℕ → ℕ → List (Option Node)
 rows ws zero = []
 rows ws (suc k) = node_at ws k ∷ rows ws k
 
+-- the nodes of a table of these words
+abbrev pub all_rows : List ℕ → List (Option Node)
+all_rows ws = rows ws (length ws / 4)
+
 -- the node of the number n: numbers count from 1, and the newest has the largest
 abbrev pub look : List (Option Node) → ℕ → Option Node
 look [] n = None

@@ -1,6 +1,6 @@
 // What a node is.
 ghost use Rattle.std.specs.Prelude.{◌≡◌};
-ghost use Rattle.nodes.specs.Kinds.{encode, decode, first_is_node, counts_first};
+ghost use Rattle.nodes.specs.Kinds.{Decodes, first_is_node, counts_first};
 
 // Of a node's two parts the second is always a number of a node, or 0. The first is one too, but for a byte and a bound variable.
 //   Byte            a byte, and the rest of the name
@@ -15,55 +15,19 @@ ghost use Rattle.nodes.specs.Kinds.{encode, decode, first_is_node, counts_first}
 //   TermCell        the first term, the rest of the list
 #[derive(Clone, Copy, PartialEq, Eq)]
 pub enum Kind {
-    Byte,
-    TypeVariable,
-    TypeNamed,
-    TypeCell,
-    Free,
-    Bound,
-    Constant,
-    Apply,
-    Lambda,
-    TermCell,
+    Byte = 0,
+    TypeVariable = 1,
+    TypeNamed = 2,
+    TypeCell = 3,
+    Free = 4,
+    Bound = 5,
+    Constant = 6,
+    Apply = 7,
+    Lambda = 8,
+    TermCell = 9,
 }
 
 impl Kind {
-    // The word that stands for a kind in the table.
-    pub fn code(self) -> u64
-        ensures { result ≡ encode self }
-    {
-        self as u64
-    }
-
-    // The kind that a word stands for.
-    pub fn of(code: u64) -> Option<Kind>
-        ensures { result ≡ decode code }
-    {
-        if code == Kind::Byte as u64 {
-            Some(Kind::Byte)
-        } else if code == Kind::TypeVariable as u64 {
-            Some(Kind::TypeVariable)
-        } else if code == Kind::TypeNamed as u64 {
-            Some(Kind::TypeNamed)
-        } else if code == Kind::TypeCell as u64 {
-            Some(Kind::TypeCell)
-        } else if code == Kind::Free as u64 {
-            Some(Kind::Free)
-        } else if code == Kind::Bound as u64 {
-            Some(Kind::Bound)
-        } else if code == Kind::Constant as u64 {
-            Some(Kind::Constant)
-        } else if code == Kind::Apply as u64 {
-            Some(Kind::Apply)
-        } else if code == Kind::Lambda as u64 {
-            Some(Kind::Lambda)
-        } else if code == Kind::TermCell as u64 {
-            Some(Kind::TermCell)
-        } else {
-            None
-        }
-    }
-
     // Is the first part a number of a node?
     pub fn first_is_node(self) -> bool
         ensures { result ≡ first_is_node self }
@@ -81,6 +45,33 @@ impl Kind {
         match self {
             Kind::TypeCell | Kind::Apply | Kind::Lambda | Kind::TermCell => true,
             _ => false,
+        }
+    }
+}
+
+// A word that stands for no kind.
+#[derive(Clone, Copy, Debug, PartialEq, Eq)]
+pub struct UnknownKind;
+
+// The kind that a word stands for: that of `kind as u64`.
+impl TryFrom<u64> for Kind {
+    type Error = UnknownKind;
+
+    ghost try_from_gives = { Decodes };
+
+    fn try_from(word: u64) -> Result<Self, UnknownKind> {
+        match word {
+            0 => Ok(Kind::Byte),
+            1 => Ok(Kind::TypeVariable),
+            2 => Ok(Kind::TypeNamed),
+            3 => Ok(Kind::TypeCell),
+            4 => Ok(Kind::Free),
+            5 => Ok(Kind::Bound),
+            6 => Ok(Kind::Constant),
+            7 => Ok(Kind::Apply),
+            8 => Ok(Kind::Lambda),
+            9 => Ok(Kind::TermCell),
+            _ => Err(UnknownKind),
         }
     }
 }

@@ -6,10 +6,9 @@ pub struct Pair {
     pub b: u64,
 }
 
-// What is left to compare of a pair: nothing, since it differs; the second parts; the first parts and the second parts.
+// What is left to compare of a pair: the second parts; or the first parts and the second parts.
 #[derive(Clone, Copy)]
 pub enum Rest {
-    Differ,
     Second(Pair),
     Both(Pair, Pair),
 }

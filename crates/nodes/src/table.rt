@@ -13,7 +13,8 @@ const NODE: usize = 4;
 
 const SHARE: usize = 6;
 
-// A node is four words, and two more are held back for comparing.
+// A node is four words, and two more are held back for comparing. Words and a count, and no stack, since what a mark above the count stood
+// for is still known (`at` of a store's state), from words that a stack would no longer have.
 #[derive(Drop)]
 pub struct Nodes<'a> {
     words: &'a mut [u64],

@@ -1,5 +1,5 @@
 -- The moves down into a term: a word, or a bracket.
-use Rattle.std.proofs.Common.{◌≡◌, ℕ, zero, suc, ◌+◌, ◌-◌, ◌*◌, ◌<◌, ◌≤◌, ◌⊎◌, List, [], ◌∷◌, ◌++◌, length, sym, refl, ap, ◌∙◌, inl, inr, append_assoc, arith, length-append}
+use Rattle.std.proofs.Common.{◌≡◌, ℕ, zero, suc, ◌+◌, ◌-◌, ◌*◌, ◌<◌, ◌≤◌, ◌⊎◌, List, [], ◌∷◌, ◌++◌, length, Some, sym, refl, ap, ◌∙◌, inl, inr, append_assoc, arith, length-append}
 use mathlib.Core.Option.{Option, some, none}
 use Rattle.hol.specs.Base.{Word, bind}
 use Rattle.hol.specs.Syntax.{Ty, Tm, bvar, app, lam}
@@ -8,14 +8,15 @@ use Rattle.reader.specs.Flat.{flat, flats, cost, costs, depths}
 use Rattle.reader.proofs.Streams.{flat_word, flat-opens, flat-closes, flat_empty}
 use Rattle.store.specs.State.{Contents, State, Grows}
 use Rattle.store.specs.Builds.{Made, Full, IsBound}
-use Rattle.store.proofs.Growth.{grows_same}
+use Rattle.store.proofs.Growth.{grows_same, grows-more}
 use Rattle.parser.specs.Scope.{Names}
 use Rattle.parser.specs.Parts.{sign, WholeRead, FunctionNext, BodyNext, NoTerm}
-use Rattle.parser.specs.Machine.{Path, root, func, arg, body, scope, alone, applied, finish, after, owed, Point, down, lost, up, failed, weight, code, Holds, holds_func, holds_body, At, at_down, at_lost, at_up, at_fail, load, Moved, Short}
+use Rattle.parser.specs.Machine.{Path, root, func, arg, body, scope, alone, applied, finish, after, owed, Point, down, lost, up, weight, Holds, holds_func, holds_body, At, at_down, at_lost, at_up, load, Moved, Stuck, Short}
 use Rattle.parser.specs.declared.turn.Binder.{Binder}
 use Rattle.parser.specs.declared.turn.Form.TheVariants.{Application, Lambda}
-use Rattle.parser.specs.declared.turn.Turn.TheVariants.{Down, Up, Fail}
-use Rattle.parser.specs.declared.turn.Wait.TheVariants.{Function, Body}
+use Rattle.parser.specs.declared.turn.Turn.TheVariants.{Down, Up}
+use Rattle.waits.specs.Codes.{code}
+use Rattle.waits.specs.declared.Wait.TheVariants.{Function, Body}
 use Rattle.parser.proofs.Stack.{holds_kept, held-length, names_length, names_of}
 
 pub finish_none : (p : Path) → finish p none ≡ none
@@ -33,39 +34,25 @@ module _ {ws zs : List ℕ} {ps qs : List Token} where
   no_token (at_lost e) i = let z : ◌≡◌ {A = ℕ} 0 1 = cc in omega arith
 
   -- a bracket closes where a term should be
-  pub nothing_there : {s : State} {rs : List Token} {x : Point} → At s.contents ws zs ps qs Down x → ps ≡ closes ∷ rs
-      → Moved (load Down ws ps) s s ws zs rs qs x Fail
+  pub nothing_there : {s : State} {rs : List Token} {x : Point} → At s.contents ws zs ps qs Down x → ps ≡ closes ∷ rs → Stuck s s x
   nothing_there {rs = rs} (at_down {p = p} {u = u} h e d) i = absurd (flat-closes u (after p qs) rs (sym e ∙ i))
-  nothing_there (at_lost e) i = record {
-    to = failed;
-    at = at_fail;
-    outcome = refl;
-    cost = 0;
-    grows = grows_same;
-    weight = omega arith;
-    falls = omega arith;
-  }
+  nothing_there (at_lost e) i = record { outcome = refl; grows = grows_same }
 
   -- A WORD
   module _ {w : Word} {rs : List Token} (i : ps ≡ word w ∷ rs) where
     pub variable_missing : {s : State} {x : Point} → At s.contents ws zs ps qs Down x
-        → ((xs : List Word) → Names s.contents zs xs → index_of w xs 0 ≡ none) → Moved (load Down ws ps) s s ws zs rs qs x Fail
+        → ((xs : List Word) → Names s.contents zs xs → index_of w xs 0 ≡ none) → Stuck s s x
     variable_missing (at_down {p = p} {n = n} {u = u} h e d) f =
         let (j, k) = flat_word u (after p qs) rs w (sym e ∙ i) in
         record {
-          to = failed;
-          at = at_fail;
-          outcome = sym (ap (λ t. finish p (read_term n (scope p) t)) j ∙ (rw (f (scope p) (names_of h)) (finish_none p)));
-          cost = 0;
-          grows = grows_same;
-          weight = omega arith;
-          falls = omega arith;
+          outcome = ap (λ t. finish p (read_term n (scope p) t)) j ∙ (rw (f (scope p) (names_of h)) (finish_none p));
+          grows = grows-more (omega arith) grows_same;
         }
     variable_missing (at_lost e) f = let z : ◌≡◌ {A = ℕ} 0 1 = cc in absurd (omega arith)
 
     pub variable_found : {s t : State} {x : Point} {k m : ℕ} → At s.contents ws zs ps qs Down x
         → ((xs : List Word) → Names s.contents zs xs → index_of w xs 0 ≡ some k) → Made 1 s t (IsBound k) m
-        → Moved (load Down ws ps) s t ws zs rs qs x (Up m)
+        → Moved (load (Some Down) ws ps) s t ws zs rs qs x (Up m)
     variable_found {k = k} (at_down {p = p} {n = n} {u = u} h e d) f b =
         let (j, o) = flat_word u (after p qs) rs w (sym e ∙ i) in
         let l = ap cost j in
@@ -129,12 +116,22 @@ lam_read : (n : ℕ) (xs : List Word) (x : Word) (v u : Sexp) (vs : Sexps) (a : 
 lam_read n xs x v u nil a e = rw e
 lam_read n xs x v u (cons w ws) a e = refl
 
+-- no term
+pub no_term : {s t : State} {ws zs : List ℕ} {rs qs : List Token} {x : Point} → Inside s.contents ws zs rs qs x
+    → ((ts : Sexps) (ss : List Token) → rs ≡ flats ts ++ (closes ∷ ss) → NoTerm s t ts) → Stuck s t x
+no_term {qs = qs} (inside {p = p} {n = n} {ts = ts} h e d) f =
+    let w = f ts (after p qs) e in
+    record {
+      outcome = ap (finish p) (w.reads n (scope p)) ∙ finish_none p;
+      grows = grows-more (omega arith) w.grows;
+    }
+
 module _ {ws zs : List ℕ} {ps rs qs : List Token} (i : ps ≡ opens ∷ rs) where
   module _ {s t : State} {os : List Token} where
     -- a whole term
     pub whole_read : {x : Point} {m : ℕ} → Inside s.contents ws zs rs qs x
         → ((ts : Sexps) (ss : List Token) → rs ≡ flats ts ++ (closes ∷ ss) → WholeRead s t ts ss os m)
-        → Moved (load Down ws ps) s t ws zs os qs x (Up m)
+        → Moved (load (Some Down) ws ps) s t ws zs os qs x (Up m)
     whole_read (inside {p = p} {n = n} {ts = ts} h e d) f =
         let w = f ts (after p qs) e in
         let j = ap length i in
@@ -150,32 +147,16 @@ module _ {ws zs : List ℕ} {ps rs qs : List Token} (i : ps ≡ opens ∷ rs) wh
           falls = omega arith;
         }
 
-    -- no term
-    pub no_term : {x : Point} {vs ys : List ℕ} → Inside s.contents ws zs rs qs x
-        → ((ts : Sexps) (ss : List Token) → rs ≡ flats ts ++ (closes ∷ ss) → NoTerm s t ts)
-        → Moved (load Down ws ps) s t vs ys os qs x Fail
-    no_term (inside {p = p} {n = n} {ts = ts} h e d) f =
-        let w = f ts (after p qs) e in
-        record {
-          to = failed;
-          at = at_fail;
-          outcome = sym (ap (finish p) (w.reads n (scope p)) ∙ finish_none p);
-          cost = costs ts;
-          grows = w.grows;
-          weight = omega arith;
-          falls = omega arith;
-        }
-
     -- an application: its function comes next
     pub function_next : {x : Point} {vs : List ℕ} {m : ℕ} → Inside s.contents ws zs rs qs x
         → ((ts : Sexps) (ss : List Token) → rs ≡ flats ts ++ (closes ∷ ss) → FunctionNext s t ts ss os)
-        → vs ≡ code Function ∷ m ∷ ws → Moved (load Down ws ps) s t vs zs os qs x Down
+        → vs ≡ code Function ∷ m ∷ ws → Moved (load (Some Down) ws ps) s t vs zs os qs x Down
     function_next {vs = vs} {m = m} (inside {p = p} {n = n} {ts = ts} h e d) f v =
         let w = f ts (after p qs) e in
         go w.rest w.is w.behind w.same
       where
         go : (us : Sexps) → ts ≡ cons (atom (sign Application)) us → os ≡ flats us ++ (closes ∷ after p qs) → t ≡ s
-            → Moved (load Down ws ps) s t vs zs os qs (down p (suc n) (list ts)) Down
+            → Moved (load (Some Down) ws ps) s t vs zs os qs (down p (suc n) (list ts)) Down
         go nil j k same =
             let y = ap length i in
             let l = ap length e in
@@ -215,7 +196,7 @@ module _ {ws zs : List ℕ} {ps rs qs : List Token} (i : ps ≡ opens ∷ rs) wh
     -- a λ: its body comes next
     pub body_next : {x : Point} {vs ys : List ℕ} {b : Binder} → Inside s.contents ws zs rs qs x
         → ((ts : Sexps) (ss : List Token) → rs ≡ flats ts ++ (closes ∷ ss) → BodyNext s t ts ss os b)
-        → vs ≡ code Body ∷ b.ty ∷ ws → ys ≡ b.name ∷ zs → Moved (load Down ws ps) s t vs ys os qs x Down
+        → vs ≡ code Body ∷ b.ty ∷ ws → ys ≡ b.name ∷ zs → Moved (load (Some Down) ws ps) s t vs ys os qs x Down
     body_next {vs = vs} {ys = ys} {b = b} (inside {p = p} {n = n} {ts = ts} h e d) f v y =
         let w = f ts (after p qs) e in
         let d = w.bound in
@@ -225,7 +206,7 @@ module _ {ws zs : List ℕ} {ps rs qs : List Token} (i : ps ≡ opens ∷ rs) wh
         go : (x : Word) (u : Sexp) (a : Ty) (us : Sexps) → ts ≡ cons (atom (sign Lambda)) (cons (atom x) (cons u us))
             → read_type u ≡ some a → t.contents.word b.name ≡ some x → t.contents.typ b.ty ≡ some a
             → os ≡ flats us ++ (closes ∷ after p qs) → Grows (length x + cost u) s t
-            → Moved (load Down ws ps) s t vs ys os qs (down p (suc n) (list ts)) Down
+            → Moved (load (Some Down) ws ps) s t vs ys os qs (down p (suc n) (list ts)) Down
         go x u a nil j r xi ai k g =
             let l = ap length i in
             let m = ap length e in

@@ -6,8 +6,6 @@ mod Parts
 mod Opens
 -- the stacks' words and what they hold
 mod Stack
--- a call above a frame
-mod Above
 -- the moves down into a term
 mod Downs
 -- the moves up with a term

@@ -1,5 +1,6 @@
 -- The names of the λs around, looked through from the innermost.
-use Rattle.std.proofs.Common.{◌≡◌, ℕ, ◌+◌, true, false, cond, List, [], ◌∷◌, sym, refl, ap, ◌∙◌, inl, inr}
+use Rattle.std.proofs.Common.{◌≡◌, ℕ, ◌+◌, ◌<◌, true, false, cond, List, [], ◌∷◌, length, get_or, drop, sym, refl, ap, ◌∙◌, inl, inr}
+use Rattle.std.proofs.lemmas.List.{at_drop_more}
 use mathlib.Core.Option.{some, none}
 use Rattle.hol.specs.Base.{Word, same_word}
 use Rattle.hol.specs.Text.{index_of}
@@ -16,6 +17,10 @@ same_word_sym v w = elim (decided (same_word v w)) [
     | inr f ↦ e ∙ sym f
   ]
 ]
+
+-- the next name of those that are left
+pub next_left : (ns : List ℕ) (k n : ℕ) → (k < length ns) × (n ≡ get_or ns k n) → drop k ns ≡ n ∷ drop (k + 1) ns
+next_left ns k n h = at_drop_more (λ xs. xs) ns k n h.0 ∙ ap (λ m. m ∷ drop (k + 1) ns) (sym h.1)
 
 -- the names of ns are left to look at, and k were passed: they decide
 pub record Seeking (c : Contents) (w : Word) (xs : List Word) (ns : List ℕ) (k : ℕ) : Type 0 where

@@ -1,16 +1,15 @@
 -- The loop that reads a term: from one turn to the next.
-use Rattle.std.proofs.Common.{◌≡◌, ℕ, ◌+◌, ◌≤◌, List, [], ◌∷◌, ◌++◌, None, Ok, sym, refl, ◌∙◌, inl, inr, arith}
+use Rattle.std.proofs.Common.{◌≡◌, ℕ, ◌+◌, ◌<◌, ◌≤◌, List, [], ◌∷◌, ◌++◌, Some, None, Option as Answer, sym, refl, ◌∙◌, inl, inr, arith}
 use mathlib.Core.Option.{Option, none}
 use Rattle.hol.specs.Syntax.{Tm}
-use Rattle.hol.proofs.Tools.{none_some}
 use Rattle.hol.specs.Text.{Token, closes, Sexp, read_term}
 use Rattle.reader.specs.Flat.{flat, cost, depth}
 use Rattle.store.specs.State.{State, Grows}
 use Rattle.store.proofs.Growth.{grows_same, grows_on, grows-more}
-use Rattle.parser_types.specs.Reads.{Read, Unread, Absent}
-use Rattle.parser.specs.Machine.{root, Point, down, lost, outcome, weight, holds_root, At, at_down, at_lost, at_end, at_fail, Moved, Short}
+use Rattle.parser_types.specs.Reads.{Read, Unread}
+use Rattle.parser.specs.Machine.{root, Point, down, lost, outcome, weight, holds_root, At, at_down, at_lost, at_end, load, MovedOn, moved, no_more, Short}
 use Rattle.parser.specs.declared.turn.Turn.{Turn}
-use Rattle.parser.specs.declared.turn.Turn.TheVariants.{Down, End, Fail}
+use Rattle.parser.specs.declared.turn.Turn.TheVariants.{Down, End}
 
 -- On the way from s₀, where a tree was ahead that costs k and of which o is read, then qs: what comes out is o, and what was paid and
 -- what is still to be paid is no more than k.
@@ -21,6 +20,11 @@ pub record Way (s₀ s : State) (ws zs : List ℕ) (ps qs : List Token) (o : Opt
   pub paid : ℕ
   pub grows : Grows paid s₀ s
   pub owes : paid + weight point ≤ k
+
+-- the same, or nothing could be read
+abbrev pub WayOn : (s₀ s : State) (ws zs : List ℕ) (ps qs : List Token) (o : Option Tm) (k : ℕ) → Answer Turn → Type 0
+WayOn s₀ s ws zs ps qs o k (Some turn) = Way s₀ s ws zs ps qs o k turn
+WayOn s₀ s ws zs ps qs o k None = Unread o k s₀ s
 
 pub start : {s : State} {ws zs : List ℕ} {ps qs : List Token} {n : ℕ} (u : Sexp) → ws ≡ [] → zs ≡ [] → ps ≡ flat u ++ qs → depth u ≤ n
     → Way s s ws zs ps qs (read_term n [] u) (cost u) Down
@@ -38,9 +42,9 @@ pub start_lost : {s : State} {ws zs : List ℕ} {ps qs : List Token} → ps ≡ 
 start_lost e = record { point = lost; at = at_lost e; ends = refl; paid = 0; grows = grows_same; owes = omega arith }
 
 module _ {s₀ s : State} {ws zs : List ℕ} {ps qs : List Token} {o : Option Tm} {k : ℕ} where
-  pub next : {t : State} {vs ys : List ℕ} {rs : List Token} {a b : Turn} {l : ℕ} → (w : Way s₀ s ws zs ps qs o k a)
-      → Moved l s t vs ys rs qs w.point b → Way s₀ t vs ys rs qs o k b
-  next w m =
+  pub next : {t : State} {vs ys : List ℕ} {rs : List Token} {a : Turn} {b : Answer Turn} {l : ℕ} → (w : Way s₀ s ws zs ps qs o k a)
+      → MovedOn l s t vs ys rs qs w.point b → WayOn s₀ t vs ys rs qs o k b
+  next w (moved m) =
       let i = w.owes in
       let j = m.weight in
       record {
@@ -51,6 +55,7 @@ module _ {s₀ s : State} {ws zs : List ℕ} {ps qs : List Token} {o : Option Tm
         grows = grows_on w.grows m.grows;
         owes = omega arith;
       }
+  next w (no_more m) = let i = w.owes in record { reads = sym w.ends ∙ m.outcome; grows = grows-more (omega arith) (grows_on w.grows m.grows) }
 
   pub stuck : {a : Turn} {room names : ℕ} → (w : Way s₀ s ws zs ps qs o k a) → Short room names (weight w.point) s
       → Short room names k s₀
@@ -71,21 +76,8 @@ module _ {s₀ s : State} {ws zs : List ℕ} {ps qs : List Token} {o : Option Tm
         behind = e;
       }
 
-  pub none_read : Way s₀ s ws zs ps qs o k Fail → Unread o k s₀ s
-  none_read w = go w.at w.ends w.owes
-    where
-      go : {x : Point} → At s.contents ws zs ps qs Fail x → outcome x ≡ o → w.paid + weight x ≤ k → Unread o k s₀ s
-      go at_fail i l = record { reads = sym i; grows = grows-more (omega arith) w.grows }
-
--- where a bracket closes, nothing is read
-pub lost_unread : {s₀ s : State} {ws zs : List ℕ} {ps qs : List Token} → Way s₀ s ws zs ps qs none 0 Fail → Absent s₀ s (Ok None)
-lost_unread w = (refl, (none_read w).grows)
-
-pub lost_read : {s₀ s : State} {ws zs : List ℕ} {ps qs : List Token} {n : ℕ} → Way s₀ s ws zs ps qs none 0 (End n) → ⊥
-lost_read w = none_some (term_read w).reads
-
-pub lost_stuck : {s₀ s : State} {ws zs : List ℕ} {ps qs : List Token} {a : Turn} {room names : ℕ} → (w : Way s₀ s ws zs ps qs none 0 a)
-    → Short room names (weight w.point) s → ⊥
-lost_stuck w (inl l) = let i = w.owes in omega arith
-lost_stuck w (inr (inl l)) = let i = w.owes in omega arith
-lost_stuck w (inr (inr l)) = let i = w.owes in omega arith
+-- one move less
+pub falls : {s t : State} {ws zs : List ℕ} {ps qs : List Token} {x : Point} {l : ℕ} {b : Answer Turn} → 0 < l → MovedOn l s t ws zs ps qs x b
+    → load b ws ps < l
+falls h (moved m) = m.falls
+falls h (no_more m) = h

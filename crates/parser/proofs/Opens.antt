@@ -1,6 +1,7 @@
 -- How a bracket begins: by its first word.
-use Rattle.std.proofs.Common.{◌≡◌, ℕ, suc, ◌*◌, ◌<◌, ◌≤◌, false, ◌⊎◌, List, [], ◌∷◌, ◌++◌, length, get_or, sym, refl, ap, ◌∙◌, inl, inr, arith}
+use Rattle.std.proofs.Common.{◌≡◌, ℕ, suc, ◌*◌, ◌<◌, ◌≤◌, false, ◌⊎◌, List, ◌∷◌, ◌++◌, Some, None, Option as Maybe, sym, refl, ap, ◌∙◌, inl, inr, arith}
 use mathlib.Core.Option.{Option, none}
+use Rattle.std.specs.Option.{IsSomeAnd, MatchOption, option_map}
 use Rattle.hol.specs.Base.{Word, same_word}
 use Rattle.hol.specs.Syntax.{Tm}
 use Rattle.hol.specs.Text.{Token, closes, word, Sexps, atom, list, nil, cons, read_term}
@@ -10,22 +11,23 @@ use Rattle.reader.specs.Flat.{flats, costs}
 use Rattle.reader.proofs.Streams.{inside-word}
 use Rattle.store.specs.State.{State}
 use Rattle.store.proofs.Growth.{grows_same, grows-more}
-use Rattle.parser_types.specs.Reads.{Read, Unread}
-use Rattle.parser.specs.Parts.{sign, Bound, Unbound, WholeRead, FunctionNext, BodyNext, NoTerm}
+use Rattle.parser_types.specs.Reads.{Reading}
+use Rattle.parser.specs.Parts.{sign, Binding, FunctionNext, NoTerm, Opening}
 use Rattle.parser.specs.declared.turn.Form.{Form}
 use Rattle.parser.specs.declared.turn.Form.TheVariants.{Free, Constant, Application, Lambda}
 use Rattle.parser.specs.declared.turn.Binder.{Binder}
+use Rattle.parser.specs.declared.turn.Opened.TheVariants.{Whole, Under}
 use Rattle.parser.proofs.Parts.{no_lambda}
-
--- a word of one byte
-pub one_byte : (w : List ℕ) (b : ℕ) → length w ≡ 1 → get_or w 0 0 ≡ b → w ≡ b ∷ []
-one_byte [] b l e = absurd (omega arith)
-one_byte (x ∷ []) b l e = ap (λ y. y ∷ []) e
-one_byte (x ∷ y ∷ ys) b l e = absurd (omega arith)
 
 -- another word
 other : (m v : Word) → (m ≡ v → ⊥) → same_word m v ≡ false
 other m v h = elim (decided (same_word m v)) [ inl e ↦ absurd (h (word_eq m v e)) | inr e ↦ e ]
+
+-- what `map` answers
+pub mapped : {A B : Type 0} (o : Maybe A) (f : A → B) (r : Maybe B) → MatchOption o (r ≡ None) (λ x. IsSomeAnd r (λ y. y ≡ f x)) → r ≡ option_map f o
+mapped None f r h = h
+mapped (Some x) f None h = absurd h
+mapped (Some x) f (Some y) h = ap Some h
 
 -- no form, no term
 no_form : (ts : Sexps) (rs : List Token) → ((f : Form) (qs : List Token) → flats ts ++ rs ≡ word (sign f) ∷ qs → ⊥)
@@ -55,18 +57,16 @@ module _ (ts : Sexps) (qs : List Token) {ps : List Token} (e : ps ≡ flats ts +
     form_short (inr h) = let l = form_cost in inr (omega arith)
 
     module _ (read : Sexps → Option Tm) (as₁ : (us : Sexps) (n : ℕ) (xs : List Word) → read_term (suc n) xs (list (cons (atom (sign f)) us)) ≡ read us) where
-      pub form_read : {s t : State} {os : List Token} {m : ℕ}
-          → Read (λ c. c.term) (read behind_form.0) (costs behind_form.0) s t qs os m → WholeRead s t ts qs os m
-      form_read a = record {
+      pub form_reading : (s t : State) (os : List Token) (o : Maybe ℕ)
+          → Reading (λ c. c.term) (read behind_form.0) (costs behind_form.0) s t qs os o → Opening s t ts qs os (option_map Whole o)
+      form_reading s t os (Some m) a = record {
         term = a.value;
         reads = λ n xs. ap (λ us. read_term (suc n) xs (list us)) behind_form.1 ∙ as₁ behind_form.0 n xs ∙ a.reads;
         stands = a.stands;
         behind = a.behind;
         grows = grows-more form_cost a.grows;
       }
-
-      pub form_unread : {s t : State} → Unread (read behind_form.0) (costs behind_form.0) s t → NoTerm s t ts
-      form_unread a = record {
+      form_reading s t os None a = record {
         reads = λ n xs. ap (λ us. read_term (suc n) xs (list us)) behind_form.1 ∙ as₁ behind_form.0 n xs ∙ a.reads;
         grows = grows-more form_cost a.grows;
       }
@@ -76,13 +76,10 @@ module _ (ts : Sexps) (qs : List Token) {ps : List Token} (e : ps ≡ flats ts +
       let (us, j, k) = behind_form Application i in
       record { rest = us; is = j; behind = k; same = refl }
 
-  pub lambda_next : {s t : State} {rs os : List Token} {b : Binder} (i : ps ≡ word (sign Lambda) ∷ rs)
-      → Bound s t (behind_form Lambda i).0 qs os b → BodyNext s t ts qs os b
-  lambda_next i d = record { inside = (behind_form Lambda i).0; is = (behind_form Lambda i).1; bound = d }
-
-  pub lambda_none : {s t : State} {rs : List Token} (i : ps ≡ word (sign Lambda) ∷ rs)
-      → Unbound s t (behind_form Lambda i).0 → NoTerm s t ts
-  lambda_none i d = record {
+  pub lambda_reading : (s t : State) {rs : List Token} (os : List Token) (o : Maybe Binder) (i : ps ≡ word (sign Lambda) ∷ rs)
+      → Binding s t (behind_form Lambda i).0 qs os o → Opening s t ts qs os (option_map Under o)
+  lambda_reading s t os (Some b) i d = record { inside = (behind_form Lambda i).0; is = (behind_form Lambda i).1; bound = d }
+  lambda_reading s t os None i d = record {
     reads = λ n xs.
         ap (λ us. read_term (suc n) xs (list us)) (behind_form Lambda i).1
         ∙ no_lambda (λ ys u. read_term n ys u) xs (behind_form Lambda i).0 d.no_binder;

@@ -1,5 +1,5 @@
 -- A name and a type; a free variable; a constant.
-use Rattle.std.proofs.Common.{◌≡◌, ℕ, ◌+◌, ◌≤◌, List, ◌∷◌, ◌++◌, length, sym, refl, ap, ◌∙◌, inl, inr, append_assoc, arith}
+use Rattle.std.proofs.Common.{◌≡◌, ℕ, ◌+◌, ◌≤◌, false, List, ◌∷◌, ◌++◌, length, sym, refl, ap, ◌∙◌, inl, inr, append_assoc, arith}
 use mathlib.Core.Option.{Option, some, none}
 use Rattle.hol.specs.Base.{Word, bind}
 use Rattle.hol.specs.Syntax.{Tm, fvar, const}
@@ -8,9 +8,9 @@ use Rattle.reader.specs.Flat.{flat, flats, cost, costs}
 use Rattle.reader.proofs.Streams.{inside-word, inside-closes}
 use Rattle.store.specs.State.{State, Grows}
 use Rattle.store.specs.Builds.{Made, Full, IsFree, IsConst}
-use Rattle.store.proofs.Growth.{grows_same, grows_on, grows-more}
-use Rattle.parser_types.specs.Reads.{Read, Unread}
-use Rattle.parser.specs.Parts.{Named, Unnamed, NameShort, Bound, Unbound, Short}
+use Rattle.store.proofs.Growth.{grows_on, grows-more}
+use Rattle.parser_types.specs.Reads.{Short, Read, Unread, Named, NameShort}
+use Rattle.parser.specs.Parts.{Bound, Unbound}
 use Rattle.parser.specs.declared.turn.Binder.{Binder}
 
 module _ (ts : Sexps) (qs : List Token) {ps : List Token} (e : ps ≡ flats ts ++ (closes ∷ qs)) where
@@ -21,17 +21,8 @@ module _ (ts : Sexps) (qs : List Token) {ps : List Token} (e : ps ≡ flats ts +
       let k = h.short in
       inl (omega arith)
 
-  pub no_name : {s t : State} → Unnamed s t ps → (w : Word) (us : Sexps) → ts ≡ cons (atom w) us → ⊥
-  no_name h w us i = h.no_word w (flats us ++ (closes ∷ qs)) (e ∙ ap (λ u. flats u ++ (closes ∷ qs)) i)
-
-  pub no_binder_named : {s t : State} → Unnamed s t ps → Unbound s t ts
-  no_binder_named h = record {
-    no_binder = λ x v vs i. absurd (no_name h x (cons v vs) i);
-    grows = rw h.same (grows-more (omega arith) grows_same);
-  }
-
   -- behind a name
-  module _ {s t : State} {rs : List Token} {n : ℕ} (b : Named s t ps rs n) where
+  module _ {s t : State} {rs : List Token} {n : ℕ} (b : Named (λ w. false) s t ps rs n) where
     pub behind-name : (us : Sexps) × (ts ≡ cons (atom b.name) us) × (rs ≡ flats us ++ (closes ∷ qs))
     behind-name = inside-word ts qs rs b.name (sym e ∙ b.ahead)
 
@@ -128,20 +119,7 @@ module _ (ts : Sexps) (qs : List Token) {ps : List Token} (e : ps ≡ flats ts +
           let z = f.short in
           inl (omega arith)
 
--- no name, no constant
-pub no_constant : (ts : Sexps) → ((w : Word) (us : Sexps) → ts ≡ cons (atom w) us → ⊥) → read_const ts ≡ none
-no_constant nil h = refl
-no_constant (cons (atom w) us) h = absurd (h w us refl)
-no_constant (cons (list vs) us) h = refl
-
--- no name and type, no free variable and no λ
-pub no_free : (ts : Sexps) → ((x : Word) (v : Sexp) (vs : Sexps) → ts ≡ cons (atom x) (cons v vs) → read_type v ≡ none) → read_free ts ≡ none
-no_free nil h = refl
-no_free (cons t nil) h = refl
-no_free (cons (atom x) (cons v nil)) h = rw (h x v nil refl)
-no_free (cons (list us) (cons v nil)) h = refl
-no_free (cons t (cons v (cons w ws))) h = refl
-
+-- no name and type, no λ
 pub no_lambda : (go : List Word → Sexp → Option Tm) (xs : List Word) (ts : Sexps)
     → ((x : Word) (v : Sexp) (vs : Sexps) → ts ≡ cons (atom x) (cons v vs) → read_type v ≡ none) → read_lam go xs ts ≡ none
 no_lambda go xs nil h = refl
@@ -153,16 +131,6 @@ no_lambda go xs (cons t (cons v (cons w (cons y ys)))) h = refl
 
 -- A FREE VARIABLE: its name and type, then the bracket that closes
 module _ {s t : State} {ts : Sexps} {qs rs : List Token} {b : Binder} (d : Bound s t ts qs rs b) where
-  binder_cost : 3 + (length d.name + cost d.tree) ≤ costs ts
-  binder_cost = let l = ap costs d.is in omega arith
-
-  pub free_unread : ((os : List Token) → rs ≡ closes ∷ os → ⊥) → Unread (read_free ts) (costs ts) s t
-  free_unread h = go d.rest d.is d.behind
-    where
-      go : (us : Sexps) → ts ≡ cons (atom d.name) (cons d.tree us) → rs ≡ flats us ++ (closes ∷ qs) → Unread (read_free ts) (costs ts) s t
-      go nil i j = absurd (h qs j)
-      go (cons v vs) i j = record { reads = ap read_free i; grows = grows-more (let l = binder_cost in omega arith) d.grows }
-
   pub free_read : {u : State} {ss : List Token} {k : ℕ} → rs ≡ closes ∷ ss → Made 1 t u (IsFree b.name b.ty) k
       → Read (λ c. c.term) (read_free ts) (costs ts) s u qs ss k
   free_read {ss = ss} i m =
@@ -172,9 +140,6 @@ module _ {s t : State} {ts : Sexps} {qs rs : List Token} {b : Binder} (d : Bound
         value = fvar d.name d.ty;
         reads = ap read_free (d.is ∙ ap (λ us. cons (atom d.name) (cons d.tree us)) j) ∙ rw d.reads;
         stands = m.stands d.name d.ty (g.word b.name d.name d.name_is) (g.typ b.ty d.ty d.ty_is);
-        grows = grows-more (let l = binder_cost in omega arith) (grows_on d.grows m.grows);
+        grows = grows-more (let l = ap costs d.is in omega arith) (grows_on d.grows m.grows);
         behind = k;
       }
-
-  pub free_short : {u : State} {room : ℕ} → Full 1 t u → Short room (costs ts) s
-  free_short f = let l = binder_cost in let x = d.grows.cost in let z = f.short in inl (omega arith)

@@ -7,9 +7,10 @@ use Rattle.hol.specs.Text.{Sexps}
 use Rattle.reader.specs.Flat.{depths}
 use Rattle.store.specs.State.{Contents, Keeps}
 use Rattle.parser.specs.Scope.{Names, no_names, one_name}
-use Rattle.parser.specs.Machine.{Path, func, arg, body, scope, owed, code, Holds, holds_root, holds_func, holds_arg, holds_body}
-use Rattle.parser.specs.declared.turn.Wait.{Wait}
-use Rattle.parser.specs.declared.turn.Wait.TheVariants.{Function, Argument, Body}
+use Rattle.parser.specs.Machine.{Path, func, arg, body, scope, owed, Holds, holds_root, holds_func, holds_arg, holds_body}
+use Rattle.waits.specs.Codes.{code, Decodes}
+use Rattle.waits.specs.declared.Wait.{Wait}
+use Rattle.waits.specs.declared.Wait.TheVariants.{Function, Argument, Body}
 
 -- what the words hold stays
 pub holds_kept : {c d : Contents} {ws zs : List ℕ} {p : Path} → Keeps c d → Holds c ws zs p → Holds d ws zs p
@@ -47,7 +48,7 @@ pub data Top (c : Contents) (m : ℕ) (vs zs : List ℕ) : Wait → Path → Typ
       → Top c m vs zs Body (body x a us p)
 
 pub top : {c : Contents} {ws zs : List ℕ} {p : Path} {k m : ℕ} {vs : List ℕ} {r : Wait} → Holds c ws zs p
-    → ws ≡ k ∷ m ∷ vs → ((w : Wait) → k ≡ code w → r ≡ w) → Top c m vs zs r p
+    → ws ≡ k ∷ m ∷ vs → Decodes k r → Top c m vs zs r p
 top {k = k} {m = m} {vs = vs} holds_root e q = let z : ◌≡◌ {A = ℕ} 0 1 = cc in absurd (omega arith)
 top {ws = ws} {k = k} {m = m} {vs = vs} (holds_func {ws₁ = us} {m = n} f l h) e q =
     let i : k ≡ code Function = cc in

@@ -1,5 +1,5 @@
 -- The machine that reads a term: where it stands, and what one move does.
-use Rattle.std.specs.Prelude.{◌≡◌, ℕ, ◌+◌, ◌*◌, ◌<◌, ◌≤◌, ◌⊎◌, List, [], ◌∷◌, ◌++◌, length, Option, Result}
+use Rattle.std.specs.Prelude.{◌≡◌, ℕ, ◌+◌, ◌*◌, ◌<◌, ◌≤◌, ◌⊎◌, List, [], ◌∷◌, ◌++◌, length, Some, None, Option, Result}
 use Rattle.std.proofs.Math.Option.{Option as Maybe, some, none}
 use Rattle.hol.specs.Base.{Word, bind}
 use Rattle.hol.specs.Syntax.{Ty, Tm, app, lam}
@@ -10,9 +10,9 @@ use Rattle.lent.specs.Answers.{Answers}
 use Rattle.lent.specs.declared.NoRoom.{NoRoom}
 use Rattle.parser_types.specs.Reads.{Reading}
 use Rattle.parser.specs.declared.turn.Turn.{Turn}
-use Rattle.parser.specs.declared.turn.Turn.TheVariants.{Down, Up, End, Fail}
-use Rattle.parser.specs.declared.turn.Wait.{Wait}
-use Rattle.parser.specs.declared.turn.Wait.TheVariants.{Function, Argument, Body}
+use Rattle.parser.specs.declared.turn.Turn.TheVariants.{Down, Up, End}
+use Rattle.waits.specs.declared.Wait.TheVariants.{Function, Argument, Body}
+use Rattle.waits.specs.Codes.{code}
 
 -- What is around the term at hand, from inside out, each with the trees behind it in its bracket.
 --   func n vs p      the function of an application; n is the fuel for the argument
@@ -67,7 +67,6 @@ pub data Point : Type 0 where
   lost : Point
   up : Path → Tm → Point
   ended : Tm → Point
-  failed : Point
 
 -- what it will have read in the end
 abbrev pub outcome : Point → Maybe Tm
@@ -75,7 +74,6 @@ outcome (down p n u) = finish p (read_term n (scope p) u)
 outcome lost = none
 outcome (up p t) = finish p (some t)
 outcome (ended t) = some t
-outcome failed = none
 
 -- what is still to be paid
 abbrev pub weight : Point → ℕ
@@ -83,14 +81,8 @@ weight (down p n u) = cost u + owed p
 weight lost = 0
 weight (up p t) = owed p
 weight (ended t) = 0
-weight failed = 0
 
 -- The words of the stack, two for each step of a path: what waits, and the number that it keeps. The names of the λs lie on another.
-abbrev pub code : Wait → ℕ
-code Function = 0
-code Argument = 1
-code Body = 2
-
 pub data Holds (c : Contents) : List ℕ → List ℕ → Path → Type 0 where
   holds_root : Holds c [] [] root
   holds_func : {ws ws₁ zs : List ℕ} {m n : ℕ} {vs : Sexps} {p : Path} → ws ≡ code Function ∷ m ∷ ws₁ → depths vs ≤ n
@@ -107,14 +99,13 @@ pub data At (c : Contents) (ws zs : List ℕ) (ps qs : List Token) : Turn → Po
   at_lost : {rs : List Token} → ps ≡ closes ∷ rs → At c ws zs ps qs Down lost
   at_up : {m : ℕ} {p : Path} {t : Tm} → c.term m ≡ some t → Holds c ws zs p → ps ≡ after p qs → At c ws zs ps qs (Up m) (up p t)
   at_end : {m : ℕ} {t : Tm} → c.term m ≡ some t → ps ≡ qs → At c ws zs ps qs (End m) (ended t)
-  at_fail : At c ws zs ps qs Fail failed
 
 -- how many moves are still to come, at most, by what lies on the stack and how many tokens are ahead
-abbrev pub load : Turn → List ℕ → List Token → ℕ
-load Down ws ps = 1 + (length ws + 4 * length ps)
-load (Up n) ws ps = 2 + (length ws + 4 * length ps)
-load (End n) ws ps = 0
-load Fail ws ps = 0
+abbrev pub load : Option Turn → List ℕ → List Token → ℕ
+load (Some Down) ws ps = 1 + (length ws + 4 * length ps)
+load (Some (Up n)) ws ps = 2 + (length ws + 4 * length ps)
+load (Some (End n)) ws ps = 0
+load None ws ps = 0
 
 -- one move from the point x, before which there were `before` moves at most, came to this turn: the outcome is the same
 pub record Moved (before : ℕ) (s t : State) (ws zs : List ℕ) (ps qs : List Token) (x : Point) (turn : Turn) : Type 0 where
@@ -124,15 +115,25 @@ pub record Moved (before : ℕ) (s t : State) (ws zs : List ℕ) (ps qs : List T
   pub cost : ℕ
   pub grows : Grows cost s t
   pub weight : cost + weight to ≤ weight x
-  pub falls : load turn ws ps < before
+  pub falls : load (Some turn) ws ps < before
+
+-- from the point x no term can be read
+pub record Stuck (s t : State) (x : Point) : Type 0 where
+  pub outcome : outcome x ≡ none
+  pub grows : Grows (weight x) s t
+
+-- a move came to a turn, or found that no term can be read
+pub data MovedOn (before : ℕ) (s t : State) (ws zs : List ℕ) (ps qs : List Token) (x : Point) : Option Turn → Type 0 where
+  moved : {turn : Turn} → Moved before s t ws zs ps qs x turn → MovedOn before s t ws zs ps qs x (Some turn)
+  no_more : Stuck s t x → MovedOn before s t ws zs ps qs x None
 
 -- refused only for want of nodes, of words, or of words for names
 abbrev pub Short : ℕ → ℕ → ℕ → State → Type 0
 Short room names cost s = (s.left < cost) ⊎ ((room < 4 * cost) ⊎ (names < cost))
 
 -- a move from x with stacks of so many words, by its answer
-abbrev pub Moves : (before room names : ℕ) → State → State → List ℕ → List ℕ → List Token → List Token → Point → Result Turn NoRoom → Type 0
-Moves before room names s t ws zs ps qs x r = Answers (Short room names (weight x) s) (Moved before s t ws zs ps qs x) r
+abbrev pub Moves : (before room names : ℕ) → State → State → List ℕ → List ℕ → List Token → List Token → Point → Result (Option Turn) NoRoom → Type 0
+Moves before room names s t ws zs ps qs x r = Answers (Short room names (weight x) s) (MovedOn before s t ws zs ps qs x) r
 
 -- a reading of a whole term
 abbrev pub TermSays : (room names cost : ℕ) → State → State → Maybe Tm → List Token → List Token → Result (Option ℕ) NoRoom → Type 0

@@ -1,49 +1,24 @@
 -- What the parts of a bracket are read as.
-use Rattle.std.specs.Prelude.{◌≡◌, ℕ, suc, ◌+◌, ◌*◌, ◌<◌, Bool, true, false, ◌⊎◌, List, ◌∷◌, ◌++◌, length, Some, None, codes, Option, Result, ◌≢◌}
+use Rattle.std.specs.Prelude.{◌≡◌, ℕ, suc, ◌+◌, Bool, true, false, List, ◌∷◌, ◌++◌, length, Some, None, codes, Option, Result, ◌≢◌}
 use Rattle.std.proofs.Math.Option.{some, none}
 use Rattle.hol.specs.Base.{Word}
 use Rattle.hol.specs.Syntax.{Ty, Tm}
 use Rattle.hol.specs.Text.{Token, closes, word, Sexp, Sexps, atom, list, cons, read_type, read_term}
 use Rattle.reader.specs.Flat.{flats, cost, costs}
 use Rattle.store.specs.State.{State, Grows}
-use Rattle.store.specs.Builds.{Made, IsWord}
 use Rattle.lent.specs.Answers.{Answers}
 use Rattle.lent.specs.declared.NoRoom.{NoRoom}
+use Rattle.parser_types.specs.Reads.{Short}
 use Rattle.parser.specs.declared.turn.Form.{Form}
 use Rattle.parser.specs.declared.turn.Form.TheVariants.{Free, Constant, Application, Lambda}
 use Rattle.parser.specs.declared.turn.Binder.{Binder}
 use Rattle.parser.specs.declared.turn.Opened.{Opened}
-use Rattle.parser.specs.declared.turn.Opened.TheVariants.{Whole, Function, Under, Nothing}
+use Rattle.parser.specs.declared.turn.Opened.TheVariants.{Whole, Function, Under}
 
 -- the bracket that closes is the first token of ps; behind it the stream is rs
 abbrev pub CloseSays : List Token → List Token → Bool → Type 0
 CloseSays ps rs true = ps ≡ closes ∷ rs
 CloseSays ps rs false = (qs : List Token) → ps ≢ closes ∷ qs
-
--- the first token is a word, kept as a name
-pub record Named (s t : State) (ps rs : List Token) (n : ℕ) : Type 0 where
-  pub name : Word
-  pub ahead : ps ≡ word name ∷ rs
-  pub made : Made (length name) s t (IsWord name) n
-
--- the first token is no word
-pub record Unnamed (s t : State) (ps : List Token) : Type 0 where
-  pub same : t ≡ s
-  pub no_word : (w : Word) (qs : List Token) → ps ≢ word w ∷ qs
-
-abbrev pub Naming : State → State → List Token → List Token → Option ℕ → Type 0
-Naming s t ps rs (Some n) = Named s t ps rs n
-Naming s t ps rs None = Unnamed s t ps
-
--- no room for the word
-pub record NameShort (s : State) (ps : List Token) : Type 0 where
-  pub name : Word
-  pub behind : List Token
-  pub ahead : ps ≡ word name ∷ behind
-  pub short : s.left < length name
-
-abbrev pub NameSays : State → State → List Token → List Token → Result (Option ℕ) NoRoom → Type 0
-NameSays s t ps rs r = Answers (NameShort s ps) (Naming s t ps rs) r
 
 -- the first word of a bracket
 abbrev pub sign : Form → Word
@@ -82,10 +57,6 @@ abbrev pub Binding : State → State → Sexps → List Token → List Token →
 Binding s t ts qs rs (Some b) = Bound s t ts qs rs b
 Binding s t ts qs rs None = Unbound s t ts
 
--- refused only for want of nodes or of words
-abbrev pub Short : ℕ → ℕ → State → Type 0
-Short room cost s = (s.left < cost) ⊎ (room < 4 * cost)
-
 abbrev pub BinderSays : ℕ → State → State → Sexps → List Token → List Token → Result (Option Binder) NoRoom → Type 0
 BinderSays room s t ts qs rs r = Answers (Short room (costs ts) s) (Binding s t ts qs rs) r
 
@@ -113,11 +84,11 @@ pub record NoTerm (s t : State) (ts : Sexps) : Type 0 where
   pub reads : (n : ℕ) (xs : List Word) → read_term (suc n) xs (list ts) ≡ none
   pub grows : Grows (costs ts) s t
 
-abbrev pub Opening : State → State → Sexps → List Token → List Token → Opened → Type 0
-Opening s t ts qs rs (Whole m) = WholeRead s t ts qs rs m
-Opening s t ts qs rs Function = FunctionNext s t ts qs rs
-Opening s t ts qs rs (Under b) = BodyNext s t ts qs rs b
-Opening s t ts qs rs Nothing = NoTerm s t ts
+abbrev pub Opening : State → State → Sexps → List Token → List Token → Option Opened → Type 0
+Opening s t ts qs rs (Some (Whole m)) = WholeRead s t ts qs rs m
+Opening s t ts qs rs (Some Function) = FunctionNext s t ts qs rs
+Opening s t ts qs rs (Some (Under b)) = BodyNext s t ts qs rs b
+Opening s t ts qs rs None = NoTerm s t ts
 
-abbrev pub OpenSays : ℕ → State → State → Sexps → List Token → List Token → Result Opened NoRoom → Type 0
+abbrev pub OpenSays : ℕ → State → State → Sexps → List Token → List Token → Result (Option Opened) NoRoom → Type 0
 OpenSays room s t ts qs rs r = Answers (Short room (costs ts) s) (Opening s t ts qs rs) r

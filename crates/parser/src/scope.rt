@@ -2,23 +2,19 @@
 ghost use Rattle.std.specs.Prelude.{◌≡◌, List};
 ghost use Rattle.hol.specs.Base.{Word};
 ghost use Rattle.hol.specs.Text.{index_of};
-ghost use Rattle.stack.specs.Frames.{held, Within};
 ghost use Rattle.parser.specs.Scope.{Names, Places};
 
+use lent::stack::Stack;
 use names::is_named;
-use stack::frame::Frame;
 use store::Store;
 
 // How many λs outwards the innermost one stands whose variable has this name.
-pub fn lookup<S: Store>(store: &S, names: &Frame<'_>, w: &[u8]) -> Option<u64>
-    requires { Within names.now }
-    ensures { (xs : List Word) → Names (S.state store.now).contents (held names.now) xs → Places (index_of w.now xs 0) result }
+pub fn lookup<S: Store>(store: &S, names: &Stack<'_>, w: &[u8]) -> Option<u64>
+    ensures { (xs : List Word) → Names (S.state store.now).contents names.now.held xs → Places (index_of w.now xs 0) result }
 {
-    let mut at = *names.top;
     let mut outwards = 0;
-    while at > names.base {
-        at -= 1;
-        if is_named(store, names.words[at], w) {
+    for name in names.as_slice().iter().rev() {
+        if is_named(store, *name, w) {
             return Some(outwards);
         }
         outwards += 1;

@@ -1,16 +1,15 @@
 -- The loop that reads a list of types: from one turn to the next.
-use Rattle.std.proofs.Common.{◌≡◌, ℕ, ◌+◌, ◌≤◌, List, [], ◌∷◌, ◌++◌, sym, refl, ◌∙◌, arith}
+use Rattle.std.proofs.Common.{◌≡◌, ℕ, ◌+◌, ◌≤◌, List, [], ◌∷◌, ◌++◌, refl, ◌∙◌, arith}
 use mathlib.Core.Option.{Option, some, none}
 use Rattle.hol.specs.Base.{bind}
 use Rattle.hol.specs.Syntax.{Tys}
 use Rattle.hol.specs.Text.{Token, closes, Sexps, read_types}
 use Rattle.reader.specs.Flat.{flats, costs}
 use Rattle.store.specs.State.{State, Grows}
-use Rattle.store.proofs.Growth.{grows_same, grows_on, grows-more}
-use Rattle.parser_types.specs.Reads.{Read, Unread}
-use Rattle.parser_types.specs.Machine.{root, Point, reading, outcome, weight, holds_root, At, at_next, at_end, at_fail, Moved}
+use Rattle.store.proofs.Growth.{grows_same, grows_on}
+use Rattle.parser_types.specs.Machine.{root, Point, reading, outcome, weight, holds_root, At, at_next, Moved}
 use Rattle.parser_types.specs.declared.turn.Turn.{Turn}
-use Rattle.parser_types.specs.declared.turn.Turn.TheVariants.{Next, End, Fail}
+use Rattle.parser_types.specs.declared.turn.Turn.TheVariants.{Next}
 
 -- On the way from s₀, where the trees us were ahead, then the bracket that closes, then qs: what comes out is what is read of us, and
 -- what was paid and what is still to be paid is no more than they cost.
@@ -51,25 +50,3 @@ next w m =
       grows = grows_on w.grows m.grows;
       weight = omega arith;
     }
-
-pub all_read : {s₀ s : State} {ws : List ℕ} {ps qs : List Token} {us : Sexps} {n : ℕ} → Way s₀ s ws ps qs us (End n)
-    → Read (λ c. c.types) (read_types us) (costs us) s₀ s qs ps n
-all_read {s₀} {s} {ws} {ps} {qs} {us} {n} w = go w.at w.ends w.weight
-  where
-    go : {x : Point} → At s.contents ws ps qs (End n) x → outcome x ≡ read_types us → w.cost + weight x ≤ costs us
-        → Read (λ c. c.types) (read_types us) (costs us) s₀ s qs ps n
-    go (at_end {bs = bs} m e) i l = record {
-      value = bs;
-      reads = sym i;
-      stands = m;
-      grows = grows-more (omega arith) w.grows;
-      behind = e;
-    }
-
-pub none_read : {s₀ s : State} {ws : List ℕ} {ps qs : List Token} {us : Sexps} → Way s₀ s ws ps qs us Fail
-    → Unread (read_types us) (costs us) s₀ s
-none_read {s₀} {s} {ws} {ps} {qs} {us} w = go w.at w.ends w.weight
-  where
-    go : {x : Point} → At s.contents ws ps qs Fail x → outcome x ≡ read_types us → w.cost + weight x ≤ costs us
-        → Unread (read_types us) (costs us) s₀ s
-    go at_fail i l = record { reads = sym i; grows = grows-more (omega arith) w.grows }

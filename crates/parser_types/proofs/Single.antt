@@ -1,5 +1,5 @@
 -- One type: a word, or a bracket with a name and types.
-use Rattle.std.proofs.Common.{◌≡◌, ℕ, ◌+◌, ◌*◌, ◌<◌, false, ◌⊎◌, List, [], ◌∷◌, ◌++◌, length, sym, ap, ◌∙◌, inl, inr, arith}
+use Rattle.std.proofs.Common.{◌≡◌, ℕ, ◌+◌, ◌<◌, false, List, ◌∷◌, ◌++◌, length, sym, ap, ◌∙◌, inl, inr, arith}
 use mathlib.Core.Option.{some}
 use Rattle.hol.specs.Base.{Word, bind}
 use Rattle.hol.specs.Syntax.{tyapp, tnil}
@@ -13,22 +13,12 @@ use Rattle.reader.specs.declared.tokens.Tokens.{Tokens}
 use Rattle.store.specs.State.{State}
 use Rattle.store.specs.Builds.{Made, Full, IsWord, IsTyapp}
 use Rattle.store.proofs.Growth.{grows_same, grows_on, grows-more}
-use Rattle.parser_types.specs.Reads.{Read, Unread, IsWordType, Named, Unnamed, NameShort}
+use Rattle.parser_types.specs.Reads.{Read, Unread, Short, IsWordType, Named, Unnamed, NameShort}
 use Rattle.parser_types.proofs.Steps.{no_type}
 
 -- the token that was read
 pub given_token : {a e : Tokens} {p q : Token} → Gives a p e → p ≡ q → stream a ≡ stands q ∷ stream e
 given_token {e = e} g i = g.ahead ∙ ap (λ r. stands r ∷ stream e) i
-
--- no other token is a bracket that closes
-pub nothing-closes : {qs : List Sign} → [] ≡ closes ∷ qs → ⊥
-nothing-closes e = let z : ◌≡◌ {A = ℕ} 0 1 = cc in omega arith
-
-pub word-closes : {w : Word} {rs qs : List Sign} → word w ∷ rs ≡ closes ∷ qs → ⊥
-word-closes e = let z : ◌≡◌ {A = ℕ} 0 1 = cc in omega arith
-
-pub open_closes : {rs qs : List Sign} → opens ∷ rs ≡ closes ∷ qs → ⊥
-open_closes e = let z : ◌≡◌ {A = ℕ} 0 1 = cc in omega arith
 
 -- a word that is no type variable names a type without arguments
 pub plain_type : {s t u : State} {w : Word} {n e a : ℕ} → is_tyvar w ≡ false → Made (length w) s t (IsWord w) n
@@ -56,7 +46,7 @@ module _ (u : Sexp) (qs : List Sign) {ps rs : List Sign} {w : Word} (e : ps ≡ 
 
 module _ (u : Sexp) (qs : List Sign) {ps rs : List Sign} (e : ps ≡ flat u ++ qs) (i : ps ≡ opens ∷ rs) where
   -- a bracket without a name is no type
-  pub unnamed : {s t : State} → Unnamed s t rs → Unread (read_type u) (cost u) s t
+  pub unnamed : {s t : State} → Unnamed is_tyvar s t rs → Unread (read_type u) (cost u) s t
   unnamed b =
       let (ts, k, l) = flat-opens u qs rs (sym e ∙ i) in
       let m = no_type ts (closes ∷ qs) (λ w ss f. b.no_name w ss (l ∙ f)) in
@@ -72,7 +62,7 @@ module _ (u : Sexp) (qs : List Sign) {ps rs : List Sign} (e : ps ≡ flat u ++ q
       omega arith
 
   -- the types behind the name of a bracket
-  module _ {s t : State} {ss : List Sign} {n : ℕ} (b : Named s t rs ss n) where
+  module _ {s t : State} {ss : List Sign} {n : ℕ} (b : Named is_tyvar s t rs ss n) where
     pub arguments : (us : Sexps) × (u ≡ list (cons (atom b.name) us)) × (ss ≡ flats us ++ (closes ∷ qs))
     arguments =
         let (ts, k, l) = flat-opens u qs rs (sym e ∙ i) in
@@ -87,7 +77,7 @@ module _ (u : Sexp) (qs : List Sign) {ps rs : List Sign} (e : ps ≡ flat u ++ q
         let l = ap cost arguments.1 in
         record { reads = reads_bracket ∙ rw a.reads; grows = grows-more (omega arith) (grows_on b.made.grows a.grows) }
 
-    pub arguments_short : {room : ℕ} → (t.left < costs arguments.0) ⊎ (room < 4 * costs arguments.0) → (s.left < cost u) ⊎ (room < 4 * cost u)
+    pub arguments_short : {room : ℕ} → Short room (costs arguments.0) t → Short room (cost u) s
     arguments_short (inl h) = let l = ap cost arguments.1 in let m = b.made.grows.cost in inl (omega arith)
     arguments_short (inr h) = let l = ap cost arguments.1 in inr (omega arith)
 

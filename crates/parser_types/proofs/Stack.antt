@@ -5,7 +5,8 @@ use Rattle.hol.specs.Base.{Word}
 use Rattle.hol.specs.Syntax.{Ty}
 use Rattle.hol.specs.Text.{Sexps}
 use Rattle.store.specs.State.{Contents, Keeps}
-use Rattle.parser_types.specs.Machine.{Path, inside, owed, code, Holds, holds_root, holds_type, holds_name}
+use Rattle.parser_types.specs.Machine.{Path, inside, owed, Holds, holds_root, holds_type, holds_name}
+use Rattle.parser_types.specs.Marks.{code, Decodes}
 use Rattle.parser_types.specs.declared.turn.Mark.{Mark}
 use Rattle.parser_types.specs.declared.turn.Mark.TheVariants.{Bracket, Argument}
 
@@ -28,7 +29,7 @@ pub data Top (c : Contents) (n : ℕ) (vs : List ℕ) : Mark → Path → List T
       → Top c n vs Bracket (inside w as₁ us p) []
 
 pub top : {c : Contents} {ws : List ℕ} {p : Path} {as₁ : List Ty} {k n : ℕ} {vs : List ℕ} {r : Mark} → Holds c ws p as₁
-    → ws ≡ k ∷ n ∷ vs → ((m : Mark) → k ≡ code m → r ≡ m) → Top c n vs r p as₁
+    → ws ≡ k ∷ n ∷ vs → Decodes k r → Top c n vs r p as₁
 top {k = k} {n = n} {vs = vs} holds_root e q = let z : ◌≡◌ {A = ℕ} 0 1 = cc in absurd (omega arith)
 top {ws = ws} {k = k} {n = n} {vs = vs} (holds_type {vs = us} {n = m} f g h) e q =
     let i : k ≡ code Argument = cc in

@@ -8,12 +8,12 @@ use Rattle.hol.specs.Text.{Token, opens, closes, word, Sexps, atom, list, nil, c
 use Rattle.reader.specs.Flat.{flats, costs}
 use Rattle.reader.proofs.Streams.{inside-closes, inside-word, inside-opens, inside_empty}
 use Rattle.store.specs.State.{Contents, State}
-use Rattle.store.specs.Builds.{Made, Full, IsTyapp, IsTypes}
-use Rattle.store.proofs.Growth.{grows_same}
+use Rattle.store.specs.Builds.{Made, IsTyapp, IsTypes}
+use Rattle.store.proofs.Growth.{grows_same, grows-more}
 use Rattle.parser_types.specs.Reads.{IsWordType, Named, Unnamed, NameShort}
-use Rattle.parser_types.specs.Machine.{Path, root, inside, before, finish, after, Point, reading, closing, ended, failed, outcome, weight, code, Holds, holds_root, holds_type, holds_name, At, at_next, at_close, at_end, at_fail, Moved}
-use Rattle.parser_types.specs.declared.turn.Turn.TheVariants.{Next, Close, End, Fail}
-use Rattle.parser_types.specs.declared.turn.Mark.{Mark}
+use Rattle.parser_types.specs.Machine.{Path, root, inside, before, finish, after, Point, reading, closing, ended, outcome, weight, Holds, holds_root, holds_type, holds_name, At, at_next, at_close, at_end, Moved, Stuck}
+use Rattle.parser_types.specs.declared.turn.Turn.TheVariants.{Next, Close, End}
+use Rattle.parser_types.specs.Marks.{code, Decodes}
 use Rattle.parser_types.specs.declared.turn.Mark.TheVariants.{Bracket, Argument}
 use Rattle.parser_types.proofs.Stack.{holds_kept, held-length, Top, top_type, top_name, top}
 
@@ -82,7 +82,7 @@ module _ {ws : List ℕ} {ps qs : List Token} where
 
   -- a bracket and its name
   pub bracket_opened : {s t : State} {rs ss : List Token} {n : ℕ} {vs : List ℕ} {x : Point} → At s.contents ws ps qs Next x → ps ≡ opens ∷ rs
-      → (b : Named s t rs ss n) → vs ≡ code Bracket ∷ n ∷ ws → Moved s t vs ss qs x Next
+      → (b : Named is_tyvar s t rs ss n) → vs ≡ code Bracket ∷ n ∷ ws → Moved s t vs ss qs x Next
   bracket_opened {rs = rs} {ss = ss} (at_next {p = p} {as₁ = as₁} {us = us} h e) q b v =
       let (ts, us₁, i, j) = inside-opens us (after p qs) rs (sym e ∙ q) in
       let (ts₁, k, l) = inside-word ts (flats us₁ ++ (closes ∷ after p qs)) ss b.name (sym j ∙ b.ahead) in
@@ -121,18 +121,14 @@ module _ {ws : List ℕ} {ps qs : List Token} where
       omega arith
 
   -- a bracket without a name
-  pub bracket_unnamed : {s t : State} {rs ss : List Token} {vs : List ℕ} {x : Point} → At s.contents ws ps qs Next x → ps ≡ opens ∷ rs
-      → Unnamed s t rs → Moved s t vs ss qs x Fail
+  pub bracket_unnamed : {s t : State} {rs : List Token} {x : Point} → At s.contents ws ps qs Next x → ps ≡ opens ∷ rs → Unnamed is_tyvar s t rs
+      → Stuck s t x
   bracket_unnamed {rs = rs} (at_next {p = p} {as₁ = as₁} {us = us} h e) q b =
       let (ts, us₁, i, j) = inside-opens us (after p qs) rs (sym e ∙ q) in
       let k = no_type ts (closes ∷ (flats us₁ ++ (closes ∷ after p qs))) (λ w ss f. b.no_name w ss (j ∙ f)) in
       record {
-        to = failed;
-        at = at_fail;
-        outcome = sym (ap (λ u. outcome (reading p as₁ u)) i ∙ (rw k (finish_none p)));
-        cost = 0;
-        grows = rw b.same grows_same;
-        weight = omega arith;
+        outcome = ap (λ u. outcome (reading p as₁ u)) i ∙ (rw k (finish_none p));
+        grows = rw b.same (grows-more (omega arith) grows_same);
       }
 
   -- the bracket at hand closes
@@ -170,7 +166,7 @@ module _ {ws : List ℕ} {ps qs : List Token} where
 
     module _ {k m : ℕ} {vs : List ℕ} (q : ws ≡ k ∷ m ∷ vs) where
       -- a type comes before the list
-      pub argument_collected : {s t : State} {j : ℕ} {x : Point} → At s.contents ws ps qs (Close n) x → ((r : Mark) → k ≡ code r → Argument ≡ r)
+      pub argument_collected : {s t : State} {j : ℕ} {x : Point} → At s.contents ws ps qs (Close n) x → Decodes k Argument
           → Made 1 s t (IsTypes m n) j → Moved s t vs ps qs x (Close j)
       argument_collected {s = s} {t = t} {j = j} (at_close e h a) r b = go (top h q r) e a
         where
@@ -187,12 +183,9 @@ module _ {ws : List ℕ} {ps qs : List Token} where
                 weight = omega arith;
               }
 
-      pub argument_short : {s t : State} {x : Point} → At s.contents ws ps qs (Close n) x → Full 1 s t → s.left < weight x
-      argument_short (at_close e h a) b = let i = held-length h in let l = ap length q in let f = b.short in omega arith
-
       -- a name makes a type of the list
       pub bracket_collected : {s t : State} {j : ℕ} {us : List ℕ} {x : Point} → At s.contents ws ps qs (Close n) x
-          → ((r : Mark) → k ≡ code r → Bracket ≡ r) → Made 1 s t (IsTyapp m n) j → us ≡ code Argument ∷ j ∷ vs
+          → Decodes k Bracket → Made 1 s t (IsTyapp m n) j → us ≡ code Argument ∷ j ∷ vs
           → Moved s t us ps qs x Next
       bracket_collected {s = s} {t = t} {j = j} {us = us} (at_close e h a) r b u = go (top h q r) e a
         where

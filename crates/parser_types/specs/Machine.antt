@@ -1,6 +1,7 @@
 -- The machine that reads a list of types up to the bracket that closes it: where it stands, and what one move does.
-use Rattle.std.specs.Prelude.{◌≡◌, ℕ, ◌+◌, ◌*◌, ◌<◌, ◌≤◌, ◌⊎◌, List, [], ◌∷◌, ◌++◌, length, Result}
-use Rattle.std.proofs.Math.Option.{Option, some, none}
+use Rattle.std.specs.Prelude.{◌≡◌, ℕ, ◌+◌, ◌*◌, ◌<◌, ◌≤◌, List, [], ◌∷◌, ◌++◌, length, Some, None, Option, Result}
+use Rattle.std.proofs.Math.Option.{Option as Maybe, some, none}
+use Rattle.std.specs.Option.{IfSome}
 use Rattle.hol.specs.Base.{Word, bind}
 use Rattle.hol.specs.Syntax.{Ty, tyapp, Tys, tcons}
 use Rattle.hol.specs.Text.{Token, closes, Sexps, read_types}
@@ -9,9 +10,10 @@ use Rattle.store.specs.State.{Contents, State, Grows}
 use Rattle.lent.specs.Answers.{Answers}
 use Rattle.lent.specs.declared.NoRoom.{NoRoom}
 use Rattle.parser_types.specs.declared.turn.Turn.{Turn}
-use Rattle.parser_types.specs.declared.turn.Turn.TheVariants.{Next, Close, End, Fail}
-use Rattle.parser_types.specs.declared.turn.Mark.{Mark}
+use Rattle.parser_types.specs.declared.turn.Turn.TheVariants.{Next, Close, End}
 use Rattle.parser_types.specs.declared.turn.Mark.TheVariants.{Bracket, Argument}
+use Rattle.parser_types.specs.Reads.{Short}
+use Rattle.parser_types.specs.Marks.{code}
 
 -- The brackets around the place at hand, from inside out: of each its name, the types that were read before it in the bracket around
 -- (the newest first), and the trees behind it there.
@@ -25,7 +27,7 @@ before [] bs = bs
 before (a ∷ as₁) bs = before as₁ (tcons a bs)
 
 -- the whole list, once the bracket at hand has been read, or not
-abbrev pub finish : Path → Option Tys → Option Tys
+abbrev pub finish : Path → Maybe Tys → Maybe Tys
 finish root o = o
 finish (inside c as₁ vs p) o =
     finish p (bind o (λ bs. bind (read_types vs) (λ ds. some (before as₁ (tcons (tyapp c bs) ds)))))
@@ -45,27 +47,20 @@ pub data Point : Type 0 where
   reading : Path → List Ty → Sexps → Point
   closing : Path → List Ty → Tys → Point
   ended : Tys → Point
-  failed : Point
 
 -- what it will have read in the end
-abbrev pub outcome : Point → Option Tys
+abbrev pub outcome : Point → Maybe Tys
 outcome (reading p as₁ us) = finish p (bind (read_types us) (λ bs. some (before as₁ bs)))
 outcome (closing p as₁ bs) = finish p (some (before as₁ bs))
 outcome (ended bs) = some bs
-outcome failed = none
 
 -- what is still to be paid
 abbrev pub weight : Point → ℕ
 weight (reading p as₁ us) = costs us + (length as₁ + owed p)
 weight (closing p as₁ bs) = length as₁ + owed p
 weight (ended bs) = 0
-weight failed = 0
 
--- The words of the stack, two for each type and each name: its kind, and its number.
-abbrev pub code : Mark → ℕ
-code Bracket = 0
-code Argument = 1
-
+-- the words of the stack, two for each type and each name: its kind, and its number
 pub data Holds (c : Contents) : List ℕ → Path → List Ty → Type 0 where
   holds_root : Holds c [] root []
   holds_type : {ws vs : List ℕ} {n : ℕ} {p : Path} {a : Ty} {as₁ : List Ty} → ws ≡ code Argument ∷ n ∷ vs → c.typ n ≡ some a
@@ -80,7 +75,6 @@ pub data At (c : Contents) (ws : List ℕ) (ps qs : List Token) : Turn → Point
   at_close : {n : ℕ} {p : Path} {as₁ : List Ty} {bs : Tys} → c.types n ≡ some bs → Holds c ws p as₁ → ps ≡ after p qs
       → At c ws ps qs (Close n) (closing p as₁ bs)
   at_end : {n : ℕ} {bs : Tys} → c.types n ≡ some bs → ps ≡ qs → At c ws ps qs (End n) (ended bs)
-  at_fail : At c ws ps qs Fail failed
 
 -- one move from the point x came to this turn: the outcome is the same
 pub record Moved (s t : State) (ws : List ℕ) (ps qs : List Token) (x : Point) (turn : Turn) : Type 0 where
@@ -91,17 +85,32 @@ pub record Moved (s t : State) (ws : List ℕ) (ps qs : List Token) (x : Point) 
   pub grows : Grows cost s t
   pub weight : cost + weight to ≤ weight x
 
--- a move from x with a stack of so many words, by its answer: it is refused only for want of nodes or of words
+-- from the point x no list of types can be read
+pub record Stuck (s t : State) (x : Point) : Type 0 where
+  pub outcome : outcome x ≡ none
+  pub grows : Grows (weight x) s t
+
+abbrev pub MovedOn : State → State → List ℕ → List Token → List Token → Point → Option Turn → Type 0
+MovedOn s t ws ps qs x (Some turn) = Moved s t ws ps qs x turn
+MovedOn s t ws ps qs x None = Stuck s t x
+
+-- a move from x with a stack of so many words, by its answer
 abbrev pub Moves : (capacity : ℕ) → State → State → List ℕ → List Token → List Token → Point → Result Turn NoRoom → Type 0
-Moves capacity s t ws ps qs x r = Answers ((s.left < weight x) ⊎ (capacity < 4 * weight x)) (Moved s t ws ps qs x) r
+Moves capacity s t ws ps qs x r = Answers (Short capacity (weight x) s) (Moved s t ws ps qs x) r
+
+-- the same of a move that reads a token
+abbrev pub Advances : (capacity : ℕ) → State → State → List ℕ → List Token → List Token → Point → Result (Option Turn) NoRoom → Type 0
+Advances capacity s t ws ps qs x r = Answers (Short capacity (weight x) s) (MovedOn s t ws ps qs x) r
 
 -- how many moves are still to come, at most, by what lies on the stack and how many tokens are ahead
 abbrev pub load : Turn → List ℕ → List Token → ℕ
 load Next ws ps = 1 + (length ws + 4 * length ps)
 load (Close n) ws ps = 2 + (length ws + 4 * length ps)
 load (End n) ws ps = 0
-load Fail ws ps = 0
 
 -- one move less
 abbrev pub Falls : Turn → List ℕ → List Token → List ℕ → List Token → Result Turn NoRoom → Type 0
 Falls turn ws ps vs qs r = Answers (Unit {0}) (λ next. load next vs qs < load turn ws ps) r
+
+abbrev pub FallsOn : Turn → List ℕ → List Token → List ℕ → List Token → Result (Option Turn) NoRoom → Type 0
+FallsOn turn ws ps vs qs r = Answers (Unit {0}) (λ o. IfSome o (λ next. load next vs qs < load turn ws ps)) r

@@ -1,21 +1,19 @@
 // Types and lists of types from a stream of tokens, into any store.
 #![tactic(auto)]
 
-ghost use Rattle.std.specs.Prelude.{◌≡◌, ℕ, ◌+◌, ◌-◌, ◌≤◌, List, ◌∷◌, ◌++◌, length};
+ghost use Rattle.std.specs.Prelude.{◌≡◌, List, ◌∷◌, ◌++◌, length};
 ghost use Rattle.hol.specs.Theory.{is_tyvar};
 ghost use Rattle.hol.specs.Text.{Token as Sign, closes, Sexp, Sexps, read_type, read_types};
 ghost use Rattle.reader.specs.Flat.{flat, flats, cost, costs};
 ghost use Rattle.reader.specs.Next.{stream};
-ghost use Rattle.stack.specs.Frames.{held, capacity, Within, Same, Restores};
 ghost use Rattle.parser_types.specs.Reads.{Reads, Absent, WordSays, NameSays};
-ghost use Rattle.parser_types.specs.Machine.{Point, At, Moves, Falls, code};
-ghost use Rattle.parser_types.specs.declared.turn.Mark.{Mark as Marks};
+ghost use Rattle.parser_types.specs.Machine.{Point, At, Moves, Advances, Falls, FallsOn};
 
 pub mod turn;
 
-use reader::tokens::{Token, Tokens};
 use lent::NoRoom;
-use stack::frame::Frame;
+use lent::stack::Stack;
+use reader::tokens::{Token, Tokens};
 use store::Store;
 use turn::{Mark, Turn};
 
@@ -31,123 +29,66 @@ fn word_type<S: Store>(store: &mut S, w: &[u8]) -> Result<u64, NoRoom>
     ensures { WordSays w.now (S.state store.old) (S.state store.new) result }
 {
     if is_type_variable(w) {
-        return match store.letter(w) {
-            Some(a) => Ok(a),
-            None => Err(NoRoom),
-        };
+        return store.letter(w).ok_or(NoRoom);
     }
-    let Some(name) = store.name(w) else {
-        return Err(NoRoom);
-    };
-    match store.type_named(name, store.empty()) {
-        Some(a) => Ok(a),
-        None => Err(NoRoom),
-    }
+    let name = store.name(w).ok_or(NoRoom)?;
+    store.type_named(name, store.empty()).ok_or(NoRoom)
 }
 
 // The name behind an opening bracket, which is no type variable.
 fn type_name<S: Store>(store: &mut S, tokens: &mut Tokens<'_>) -> Result<Option<u64>, NoRoom>
-    ensures { NameSays (S.state store.old) (S.state store.new) (stream tokens.old) (stream tokens.new) result }
+    ensures { NameSays is_tyvar (S.state store.old) (S.state store.new) (stream tokens.old) (stream tokens.new) result }
 {
-    let next = tokens.next();
-    let Some(token) = next else {
-        return Ok(None);
-    };
-    match token {
-        Token::Open => Ok(None),
-        Token::Close => Ok(None),
-        Token::Word(w) => {
-            if is_type_variable(w) {
-                return Ok(None);
-            }
-            match store.name(w) {
-                Some(name) => Ok(Some(name)),
-                None => Err(NoRoom),
-            }
-        }
+    match tokens.next() {
+        Some(Token::Word(w)) if !is_type_variable(w) => Ok(Some(store.name(w).ok_or(NoRoom)?)),
+        _ => Ok(None),
     }
 }
 
-// What a pair of words is, by the first of them.
-fn mark(k: u64) -> Mark
-    ensures { (m : Marks) → k ≡ code m → result ≡ m }
-{
-    if k == Mark::Bracket as u64 {
-        Mark::Bracket
-    } else {
-        Mark::Argument
-    }
-}
-
-// Reads on in a bracket: a word is a type, a bracket opens with its name, or the bracket at hand closes.
+// Reads on in a bracket: a word is a type, a bracket opens with its name, or the bracket at hand closes. None if no list of types goes on
+// with these tokens.
 fn advance<S: Store>(
     store: &mut S,
-    f: &mut Frame<'_>,
+    pending: &mut Stack<'_>,
     tokens: &mut Tokens<'_>,
-) -> Result<Turn, NoRoom>
-    requires { Within f.old }
-    ensures within { Within f.new }
-    ensures same { Same f.old f.new }
-    ensures top_name { f.new.top.ghost_name ≡ f.old.top.ghost_name }
-    ensures words_name { f.new.words.ghost_name ≡ f.old.words.ghost_name }
-    ensures moves { (qs : List Sign) (x : Point) → At (S.state store.old).contents (held f.old) (stream tokens.old) qs Turn.Next x → Moves (capacity f.old) (S.state store.old) (S.state store.new) (held f.new) (stream tokens.new) qs x result }
-    ensures falls { Falls Turn.Next (held f.old) (stream tokens.old) (held f.new) (stream tokens.new) result }
+) -> Result<Option<Turn>, NoRoom>
+    ensures capacity { pending.new.capacity ≡ pending.old.capacity }
+    ensures moves { (qs : List Sign) (x : Point) → At (S.state store.old).contents pending.old.held (stream tokens.old) qs Turn.Next x → Advances pending.old.capacity (S.state store.old) (S.state store.new) pending.new.held (stream tokens.new) qs x result }
+    ensures falls { FallsOn Turn.Next pending.old.held (stream tokens.old) pending.new.held (stream tokens.new) result }
 {
-    let next = tokens.next();
-    let Some(token) = next else {
-        return Ok(Turn::Fail);
-    };
-    match token {
-        Token::Word(w) => {
+    match tokens.next() {
+        Some(Token::Word(w)) => {
             let a = word_type(store, w)?;
-            if f.push_all(&[a, Mark::Argument as u64]) {
-                Ok(Turn::Next)
-            } else {
-                Err(NoRoom)
-            }
+            pending.push_all(&[a, Mark::Argument as u64])?;
+            Ok(Some(Turn::Next))
         }
-        Token::Open => {
-            let opened = type_name(store, tokens)?;
-            let Some(name) = opened else {
-                return Ok(Turn::Fail);
+        Some(Token::Open) => {
+            let Some(name) = type_name(store, tokens)? else {
+                return Ok(None);
             };
-            if f.push_all(&[name, Mark::Bracket as u64]) {
-                Ok(Turn::Next)
-            } else {
-                Err(NoRoom)
-            }
+            pending.push_all(&[name, Mark::Bracket as u64])?;
+            Ok(Some(Turn::Next))
         }
-        Token::Close => Ok(Turn::Close(store.empty())),
+        Some(Token::Close) => Ok(Some(Turn::Close(store.empty()))),
+        None => Ok(None),
     }
 }
 
 // Takes the newest pair off the stack, where a bracket closed: a type comes before the list, a name makes a type of it.
-fn collect<S: Store>(store: &mut S, f: &mut Frame<'_>, list: u64) -> Result<Turn, NoRoom>
-    requires { Within f.old }
-    ensures within { Within f.new }
-    ensures same { Same f.old f.new }
-    ensures top_name { f.new.top.ghost_name ≡ f.old.top.ghost_name }
-    ensures words_name { f.new.words.ghost_name ≡ f.old.words.ghost_name }
-    ensures moves { (ps qs : List Sign) (x : Point) → At (S.state store.old).contents (held f.old) ps qs (Turn.Close list) x → Moves (capacity f.old) (S.state store.old) (S.state store.new) (held f.new) ps qs x result }
-    ensures falls { (ps : List Sign) → Falls (Turn.Close list) (held f.old) ps (held f.new) ps result }
+fn collect<S: Store>(store: &mut S, pending: &mut Stack<'_>, list: u64) -> Result<Turn, NoRoom>
+    ensures capacity { pending.new.capacity ≡ pending.old.capacity }
+    ensures moves { (ps qs : List Sign) (x : Point) → At (S.state store.old).contents pending.old.held ps qs (Turn.Close list) x → Moves pending.old.capacity (S.state store.old) (S.state store.new) pending.new.held ps qs x result }
+    ensures falls { (ps : List Sign) → Falls (Turn.Close list) pending.old.held ps pending.new.held ps result }
 {
-    let Some((k, n)) = f.pop_pair() else {
+    let Some((mark, n)) = pending.pop_pair() else {
         return Ok(Turn::End(list));
     };
-    match mark(k) {
-        Mark::Argument => match store.cons_type(n, list) {
-            Some(longer) => Ok(Turn::Close(longer)),
-            None => Err(NoRoom),
-        },
+    match Mark::from(mark) {
+        Mark::Argument => Ok(Turn::Close(store.cons_type(n, list).ok_or(NoRoom)?)),
         Mark::Bracket => {
-            let Some(a) = store.type_named(n, list) else {
-                return Err(NoRoom);
-            };
-            if f.push_all(&[a, Mark::Argument as u64]) {
-                Ok(Turn::Next)
-            } else {
-                Err(NoRoom)
-            }
+            let a = store.type_named(n, list).ok_or(NoRoom)?;
+            pending.push_all(&[a, Mark::Argument as u64])?;
+            Ok(Turn::Next)
         }
     }
 }
@@ -156,22 +97,23 @@ fn collect<S: Store>(store: &mut S, f: &mut Frame<'_>, list: u64) -> Result<Turn
 pub fn read_types<S: Store>(
     store: &mut S,
     words: &mut [u64],
-    top: &mut usize,
     tokens: &mut Tokens<'_>,
 ) -> Result<Option<u64>, NoRoom>
-    requires { top.old ≤ length words.old }
-    ensures stack { Restores words.old top.old words.new top.new }
-    ensures cases { (us : Sexps) (qs : List Sign) → stream tokens.old ≡ flats us ++ (closes ∷ qs) → Reads (λ c. c.types) (read_types us) (length words.old - top.old) (costs us) (S.state store.old) (S.state store.new) qs (stream tokens.new) result }
+    ensures { (us : Sexps) (qs : List Sign) → stream tokens.old ≡ flats us ++ (closes ∷ qs) → Reads (λ c. c.types) (read_types us) (length words.old) (costs us) (S.state store.old) (S.state store.new) qs (stream tokens.new) result }
 {
-    let mut f = Frame::new(words, top);
+    let mut pending = Stack::new(words);
     let mut turn = Turn::Next;
     loop {
-        match turn {
-            Turn::Next => turn = advance(store, &mut f, tokens)?,
-            Turn::Close(list) => turn = collect(store, &mut f, list)?,
+        turn = match turn {
+            Turn::Next => {
+                let Some(next) = advance(store, &mut pending, tokens)? else {
+                    return Ok(None);
+                };
+                next
+            }
+            Turn::Close(list) => collect(store, &mut pending, list)?,
             Turn::End(list) => return Ok(Some(list)),
-            Turn::Fail => return Ok(None),
-        }
+        };
     }
 }
 
@@ -179,37 +121,23 @@ pub fn read_types<S: Store>(
 pub fn read_type<S: Store>(
     store: &mut S,
     words: &mut [u64],
-    top: &mut usize,
     tokens: &mut Tokens<'_>,
 ) -> Result<Option<u64>, NoRoom>
-    requires { top.old ≤ length words.old }
-    ensures stack { Restores words.old top.old words.new top.new }
-    ensures cases { (u : Sexp) (qs : List Sign) → stream tokens.old ≡ flat u ++ qs → Reads (λ c. c.typ) (read_type u) (length words.old - top.old) (cost u) (S.state store.old) (S.state store.new) qs (stream tokens.new) result }
+    ensures cases { (u : Sexp) (qs : List Sign) → stream tokens.old ≡ flat u ++ qs → Reads (λ c. c.typ) (read_type u) (length words.old) (cost u) (S.state store.old) (S.state store.new) qs (stream tokens.new) result }
     ensures none { (qs : List Sign) → stream tokens.old ≡ closes ∷ qs → Absent (S.state store.old) (S.state store.new) result }
 {
-    let next = tokens.next();
-    let Some(token) = next else {
-        return Ok(None);
-    };
-    match token {
-        Token::Close => Ok(None),
-        Token::Word(w) => {
-            let a = word_type(store, w)?;
-            Ok(Some(a))
-        }
-        Token::Open => {
-            let opened = type_name(store, tokens)?;
-            let Some(name) = opened else {
+    match tokens.next() {
+        Some(Token::Word(w)) => Ok(Some(word_type(store, w)?)),
+        Some(Token::Open) => {
+            let Some(name) = type_name(store, tokens)? else {
                 return Ok(None);
             };
-            let read = read_types(store, words, top, tokens)?;
-            let Some(list) = read else {
+            let Some(list) = read_types(store, words, tokens)? else {
                 return Ok(None);
             };
-            match store.type_named(name, list) {
-                Some(a) => Ok(Some(a)),
-                None => Err(NoRoom),
-            }
+            Ok(Some(store.type_named(name, list).ok_or(NoRoom)?))
         }
+        Some(Token::Close) => Ok(None),
+        None => Ok(None),
     }
 }

@@ -1,4 +1,4 @@
-// How a node is shown.
+// How a node is shown: by functions, and not by `TryFrom`, as nodes and views are both types of other crates.
 ghost use Rattle.std.specs.Prelude.{◌≡◌};
 ghost use Rattle.plain.specs.Shown.{name_shown, type_shown, types_shown, term_shown, terms_shown};
 

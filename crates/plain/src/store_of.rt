@@ -75,44 +75,29 @@ impl Store for Plain<'_, '_> {
         if n == EMPTY {
             return Some(NameView::Empty);
         }
-        match self.nodes.get(n) {
-            Some(node) => as_name(node),
-            None => None,
-        }
+        as_name(self.nodes.get(n)?)
     }
 
     fn view_type(&self, n: u64) -> Option<TypeView> {
-        match self.nodes.get(n) {
-            Some(node) => as_type(node),
-            None => None,
-        }
+        as_type(self.nodes.get(n)?)
     }
 
     fn view_types(&self, n: u64) -> Option<ListView> {
         if n == EMPTY {
             return Some(ListView::Nil);
         }
-        match self.nodes.get(n) {
-            Some(node) => as_types(node),
-            None => None,
-        }
+        as_types(self.nodes.get(n)?)
     }
 
     fn view_term(&self, n: u64) -> Option<TermView> {
-        match self.nodes.get(n) {
-            Some(node) => as_term(node),
-            None => None,
-        }
+        as_term(self.nodes.get(n)?)
     }
 
     fn view_terms(&self, n: u64) -> Option<ListView> {
         if n == EMPTY {
             return Some(ListView::Nil);
         }
-        match self.nodes.get(n) {
-            Some(node) => as_terms(node),
-            None => None,
-        }
+        as_terms(self.nodes.get(n)?)
     }
 
     fn size(&self, n: u64) -> u64 {

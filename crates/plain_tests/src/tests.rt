@@ -54,10 +54,8 @@ fn reads<S: Store>(s: &S, name: u64, bytes: &[u8]) -> bool {
 
 fn all_bytes<S: Store>(s: &mut S) -> Option<bool> {
     let mut bytes = [0u8; 256];
-    let mut b = 0u8;
-    for x in bytes.iter_mut() {
-        *x = b;
-        b = b.wrapping_add(1);
+    for b in 0..=u8::MAX {
+        bytes[b as usize] = b;
     }
     let v = s.name(&bytes)?;
     let w = s.name(&bytes)?;

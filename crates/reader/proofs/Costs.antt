@@ -5,8 +5,8 @@ use Rattle.hol.specs.Text.{Token, opens, closes, word, Mode, gap, in_word, comme
 use Rattle.hol.specs.Text.{Sexp, Sexps, atom, list, nil, cons, sexps}
 use Rattle.reader.specs.Flat.{flat, flats, cost, costs, depth, depths}
 use Rattle.reader.specs.Next.{kind_of}
-use Rattle.reader.specs.declared.tokens.Kind.{Kind}
-use Rattle.reader.specs.declared.tokens.Kind.TheVariants.{Blank, Comment, Opening, Closing, Letter}
+use Rattle.reader.specs.declared.kind.Kind.{Kind}
+use Rattle.reader.specs.declared.kind.Kind.TheVariants.{Blank, Comment, Opening, Closing, Letter}
 use Rattle.reader.proofs.Lexing.{afresh_by, is_letter, afresh-kind, in_words_kind}
 use Rattle.reader.proofs.Trees.{flats_from_sexps}
 

@@ -1,26 +1,14 @@
--- Counting line feeds from left to right.
-use Rattle.std.proofs.Common.{◌≡◌, ℕ, ◌+◌, ◌<◌, ◌≤◌, List, length, get_or, drop, arith, ne_eqb}
-use Rattle.std.proofs.lemmas.List.{drop_all}
+-- How many line feeds there are.
+use Rattle.std.proofs.Common.{◌≡◌, ℕ, ◌+◌, Bool, true, false, cond, eqb, List, length, sym, refl, ◌∙◌, arith}
+use Rattle.std.specs.List.{filter}
+use Rattle.std.proofs.lemmas.List.Recursion.{is_count_by}
+use Rattle.std.proofs.lemmas.List.Sums.{length-filter}
 use Rattle.reader.specs.Lines.{line_feeds}
-use Rattle.reader.proofs.Places.{cut}
+use Rattle.reader.proofs.Ahead.{feeds}
 
--- with the line feeds from i on, the line is that of the end
-pub record Lined (xs : List ℕ) (i line : ℕ) : Type 0 where
-  pub rest : line + line_feeds (drop i xs) ≡ line_feeds xs + 1
-  pub few : line ≤ i + 1
+one_more : (b : Bool) (n : ℕ) → cond b 1 0 + n ≡ cond b (1 + n) n
+one_more true n = refl
+one_more false n = omega arith
 
-module _ (xs : List ℕ) (i line : ℕ) (l : Lined xs i line) where
-  pub lined_feed : i < length xs → get_or xs i 0 ≡ 10 → Lined xs (i + 1) (line + 1)
-  lined_feed h e =
-      let one : line_feeds (drop i xs) ≡ 1 + line_feeds (drop (i + 1) xs) = rw (cut xs i h, e) in
-      record { rest = omega arith; few = omega arith }
-
-  pub lined_other : i < length xs → (get_or xs i 0 ≡ 10 → ⊥) → Lined xs (i + 1) line
-  lined_other h n =
-      let zero_more : line_feeds (drop i xs) ≡ 0 + line_feeds (drop (i + 1) xs) = rw (cut xs i h, ne_eqb (get_or xs i 0) 10 n) in
-      record { rest = omega arith; few = omega arith }
-
-  pub lined_end : length xs ≤ i → line ≡ line_feeds xs + 1
-  lined_end h =
-      let none : line_feeds (drop i xs) ≡ 0 = rw (drop_all i xs h) in
-      omega arith
+pub filtered : (t : List ℕ) → length (filter feeds t) ≡ line_feeds t
+filtered t = length-filter feeds t ∙ sym (is_count_by (λ cs. line_feeds cs) feeds refl (λ c cs. one_more (eqb c 10) (line_feeds cs)) t)

@@ -2,8 +2,8 @@
 use Rattle.std.proofs.Common.{◌≡◌, ℕ, Bool, true, false, cond, not, ◌||◌, eqb, List, [], ◌∷◌, ◌++◌, refl}
 use Rattle.hol.specs.Text.{Token, opens, closes, gap, in_word, comment, Turn, turn, afresh, is_blank, in_words}
 use Rattle.reader.specs.Next.{kind_of}
-use Rattle.reader.specs.declared.tokens.Kind.{Kind}
-use Rattle.reader.specs.declared.tokens.Kind.TheVariants.{Blank, Comment, Opening, Closing, Letter}
+use Rattle.reader.specs.declared.kind.Kind.{Kind}
+use Rattle.reader.specs.declared.kind.Kind.TheVariants.{Blank, Comment, Opening, Closing, Letter}
 
 -- a byte that continues no word and no comment, by its kind
 abbrev pub afresh_by : Kind → List Token → ℕ → Turn

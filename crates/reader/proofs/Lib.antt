@@ -12,15 +12,15 @@ pub mod Trees
 pub mod Streams
 -- what each byte does to a reader of tokens
 pub mod Lexing
--- the tokens from a place on
-pub mod Places
+-- the tokens of a text, by its first byte
+pub mod Ahead
 -- the next token of the stream
 pub mod Given
 -- what a text's tokens come to, by its length
 pub mod Costs
 -- how many brackets are open and how many S-expressions began
 pub mod Nesting
--- line feeds from left to right
+-- line feeds
 pub mod Feeds
 -- fuel that suffices does not matter
 pub mod Fuel

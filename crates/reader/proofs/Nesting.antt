@@ -1,14 +1,15 @@
 -- A reader of tokens that keeps how many brackets are open and how many S-expressions began outside of all.
-use Rattle.std.proofs.Common.{◌≡◌, ℕ, zero, suc, ◌+◌, ◌-◌, ◌<◌, ◌≤◌, List, [], ◌∷◌, ◌++◌, length, drop, sym, refl, ap, ◌∙◌, ⊎_elim, add-one, arith}
+use Rattle.std.proofs.Common.{◌≡◌, ℕ, zero, suc, ◌+◌, ◌-◌, ◌<◌, ◌≤◌, List, [], ◌∷◌, ◌++◌, length, get_or, drop, sym, refl, ◌∙◌, ⊎_elim, add-one, arith, length-append}
 use mathlib.Core.Option.{some}
-use Rattle.std.proofs.lemmas.List.{drop_all}
+use Rattle.std.proofs.Math.Seq.{drop-append_seam}
 use Rattle.std.proofs.str.Laws.{order}
 use Rattle.hol.specs.Text.{Token, opens, closes, word, gap, tokens, Sexp, Sexps, nil, cons, count_sexps, sexps}
 use Rattle.reader.specs.Flat.{flats}
-use Rattle.reader.specs.Next.{stands, stream, SkipTo, Gives}
+use Rattle.reader.specs.Next.{kind_of, stands, stream, EndsWith, Begins, Stops, SkipTo, Gives}
 use Rattle.reader.specs.Lines.{deeper, behind, StartSays}
 use Rattle.reader.specs.declared.tokens.Token.{Token as Read}
 use Rattle.reader.specs.declared.tokens.Tokens.{Tokens}
+use Rattle.reader.proofs.Ahead.{ends_same, ends_on}
 use Rattle.reader.proofs.Streams.{inside-closes, inside-word, inside-opens, inside_empty}
 use Rattle.reader.proofs.Streams.{outside_empty, outside_closes, outside_word, outside_opens}
 use Rattle.reader.proofs.Trees.{flats_from_sexps}
@@ -97,23 +98,25 @@ all-begun ps d k ts n none = go n.inner n.is
 
 -- THE LOOP
 
+empty : (r : List ℕ) → length r < 1 → r ≡ []
+empty [] h = refl
+empty (c ∷ cs) h = absurd (omega arith)
+
 -- behind the tokens before s, d brackets are open and k S-expressions began, fewer than n
 pub record Counting (t : List ℕ) (n : ℕ) (s : Tokens) (d k : ℕ) : Type 0 where
-  pub same : s.text.now ≡ t
-  pub within : s.at ≤ length t
-  pub shallow : d ≤ s.at
-  pub few : k ≤ s.at
+  pub ends : EndsWith t s.rest.now
+  pub shallow : d + length s.rest.now ≤ length t
+  pub few : k + length s.rest.now ≤ length t
   pub below : 1 ≤ n → k < n
   pub nest : (ts : Sexps) → sexps t ≡ some ts → Nest (stream s) d (behind k ts)
 
-pub counting_start : (t : List ℕ) (n : ℕ) (s : Tokens) → s.text.now ≡ t → s.at ≡ 0 → Counting t n s 0 0
-counting_start t n s e z = record {
-  same = e;
-  within = omega arith;
-  shallow = omega arith;
-  few = omega arith;
+pub counting_start : (t : List ℕ) (n : ℕ) (s : Tokens) → s.rest.now ≡ t → Counting t n s 0 0
+counting_start t n s e = record {
+  ends = rw e (ends_same t);
+  shallow = rw e (omega arith);
+  few = rw e (omega arith);
   below = λ h. omega arith;
-  nest = λ ts r. record { inner = []; deep = refl; is = rw (e, z) (flats_from_sexps t ts r) };
+  nest = λ ts r. record { inner = []; deep = refl; is = rw e (flats_from_sexps t ts r) };
 }
 
 deeper_by_one : (p : Token) (d : ℕ) → deeper p d ≤ d + 1
@@ -121,27 +124,34 @@ deeper_by_one opens d = omega arith
 deeper_by_one closes d = omega arith
 deeper_by_one (word w) d = omega arith
 
+first_of : (xs : List ℕ) (c : ℕ) (cs : List ℕ) → get_or (xs ++ (c ∷ cs)) (length xs) 0 ≡ c
+first_of [] c cs = refl
+first_of (x ∷ xs) c cs = first_of xs c cs
+
+-- where the last bytes r of t begin, as far as they go
+begins_at : (t r : List ℕ) → EndsWith t r → Stops r → 1 ≤ length r
+    → (let q = length t - length r in (drop q t ≡ r) × (q < length t) × Begins (kind_of (get_or t q 0)))
+begins_at t [] (xs, e) b h = absurd (omega arith)
+begins_at t (c ∷ cs) (xs, e) b h =
+    let q : length t - length (c ∷ cs) ≡ length xs = rw e (omega (arith, length-append xs (c ∷ cs))) in
+    rw (q, e) (drop-append_seam xs (c ∷ cs), omega (arith, length-append xs (c ∷ cs)), rw first_of b)
+
 module _ (t : List ℕ) (n : ℕ) (s : Tokens) (d k : ℕ) (now : Counting t n s d k) where
   module _ (p : Read) (e : Tokens) (g : Gives s p e) where
-    further : e.at ≤ length t
-    further = rw now.same at g.within
-
     pub counting_out : d ≡ 0 → (k + 1 ≡ n → ⊥) → Counting t n e (deeper (stands p) d) (k + 1)
     counting_out z less = record {
-      same = ap (λ r. r.now) g.same ∙ now.same;
-      within = further;
-      shallow = omega (arith, deeper_by_one (stands p) d);
-      few = omega arith;
+      ends = ends_on _ _ _ now.ends g.ends;
+      shallow = omega (arith, deeper_by_one (stands p) d, now.shallow, g.shorter);
+      few = omega (arith, now.few, g.shorter);
       below = λ h. omega (arith, now.below h, less);
       nest = λ ts r. outside_brackets (stands p) (stream e) d k ts (rw g.ahead at (now.nest ts r)) z;
     }
 
     pub counting_in : (d ≡ 0 → ⊥) → Counting t n e (deeper (stands p) d) k
     counting_in nested_in = record {
-      same = ap (λ r. r.now) g.same ∙ now.same;
-      within = further;
-      shallow = omega (arith, deeper_by_one (stands p) d);
-      few = omega arith;
+      ends = ends_on _ _ _ now.ends g.ends;
+      shallow = omega (arith, deeper_by_one (stands p) d, now.shallow, g.shorter);
+      few = omega (arith, now.few, g.shorter);
       below = now.below;
       nest = λ ts r. within_bracket (stands p) (stream e) d (behind k ts) (rw g.ahead at (now.nest ts r)) nested_in;
     }
@@ -150,20 +160,19 @@ module _ (t : List ℕ) (n : ℕ) (s : Tokens) (d k : ℕ) (now : Counting t n s
   pub none_left : (q : ℕ) → stream s ≡ [] → StartSays t n q
   none_left q over ts r first few = absurd (omega (arith, all-begun (stream s) d k ts (now.nest ts r) over, now.below first))
 
-  pub none_behind : (q : ℕ) → length t ≤ s.at → StartSays t n q
-  none_behind q h = none_left q (rw (now.same, drop_all s.at t h))
-
-  pub starts_here : (q : ℕ) → d ≡ 0 → k + 1 ≡ n → SkipTo t s.at q → StartSays t n q
-  starts_here q z last to ts r first few =
-      let here : tokens gap (drop q t) ≡ flats (behind k ts) =
-      sym to.ahead ∙ (rw now.same at (outside_is (stream s) d (behind k ts) (now.nest ts r) z)) in
-      let inside : q < length t =
-      ⊎_elim (λ h. h)
-      (λ h. let over : flats (behind k ts) ≡ [] = sym here ∙ rw (drop_all q t h) in
+  -- the S-expression with the number n begins where the blanks and comments before the next token end
+  pub starts_here : (r : List ℕ) → d ≡ 0 → k + 1 ≡ n → SkipTo s.rest.now r → StartSays t n (length t - length r)
+  starts_here r z last to ts e first few =
+      let here : tokens gap r ≡ flats (behind k ts) =
+      sym to.ahead ∙ outside_is (stream s) d (behind k ts) (now.nest ts e) z in
+      let some_left : 1 ≤ length r =
+      ⊎_elim (λ h. let over : flats (behind k ts) ≡ [] = sym here ∙ rw (empty r h) in
       absurd (omega (arith, behind-all k ts (outside_empty (behind k ts) over))))
-      (order q (length t)) in
+      (λ h. h)
+      (order (length r) 1) in
+      let place = begins_at t r (ends_on _ _ _ now.ends to.ends) to.stops some_left in
       record {
-        ahead = let m : n - 1 ≡ k = omega arith in rw m here;
-        within = inside;
-        begins = to.stops inside;
+        ahead = let m : n - 1 ≡ k = omega arith in rw (m, place.0) here;
+        within = place.1;
+        begins = place.2;
       }

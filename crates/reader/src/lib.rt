@@ -4,6 +4,7 @@
 
 ghost use Rattle.reader.specs.Counts.{CountSays};
 
+mod kind;
 mod line;
 mod state;
 #[cfg(test)]

@@ -25,12 +25,12 @@ fn start_of(text: &[u8], n: usize) -> usize
     let mut tokens = Tokens::new(text);
     let mut depth = 0;
     let mut begun = 0;
-    while tokens.at < text.len() {
-        let start = skip(text, tokens.at);
+    loop {
+        let ahead = skip(tokens.rest);
         if depth == 0 {
             begun += 1;
             if begun == n {
-                return start;
+                return text.len() - ahead.len();
             }
         }
         match tokens.next() {
@@ -38,18 +38,12 @@ fn start_of(text: &[u8], n: usize) -> usize
             None => return text.len(),
         }
     }
-    text.len()
 }
 
 // The line, from 1, on which the S-expression with the number n begins.
 pub fn line_of(text: &[u8], n: usize) -> usize
     ensures { LineSays text.now n result }
 {
-    let mut line = 1;
-    for byte in &text[..start_of(text, n)] {
-        if *byte == LINE_FEED {
-            line += 1;
-        }
-    }
-    line
+    let before = &text[..start_of(text, n)];
+    1 + before.iter().filter(|byte| **byte == LINE_FEED).count()
 }

@@ -1,9 +1,9 @@
 // What is kept of the bytes read so far, and what one more byte does to it.
 ghost use Rattle.std.specs.Prelude.{◌≡◌, ◌+◌, ◌^◌, ◌<◌};
-ghost use Rattle.hol.specs.Text.{is_blank};
 ghost use Rattle.reader.specs.Steps.{state, begun, opened, closed, lettered, after, StepSays, EndSays};
 
 use crate::Fault;
+use crate::kind::Kind;
 
 // Where the reader stands: between words, in a word, or in a comment, which `;` begins and only a line feed ends.
 #[derive(Clone, Copy)]
@@ -19,13 +19,6 @@ pub struct Reader {
     mode: Mode,
     depth: usize,
     commands: usize,
-}
-
-// Blank, line feed, return, tab.
-fn is_blank(byte: u8) -> bool
-    ensures { result ≡ is_blank byte }
-{
-    byte == b' ' || byte == b'\n' || byte == b'\r' || byte == b'\t'
 }
 
 impl Reader {
@@ -64,10 +57,7 @@ impl Reader {
     fn close(&mut self) -> Result<(), Fault>
         ensures { StepSays (closed self.old) self.new result }
     {
-        if self.depth == 0 {
-            return Err(Fault::Broken);
-        }
-        self.depth -= 1;
+        self.depth = self.depth.checked_sub(1).ok_or(Fault::Broken)?;
         self.mode = Mode::Gap;
         Ok(())
     }
@@ -94,12 +84,12 @@ impl Reader {
             }
             return Ok(());
         }
-        match byte {
-            b';' => self.mode = Mode::Comment,
-            b'(' => self.open(),
-            b')' => self.close()?,
-            _ if is_blank(byte) => self.mode = Mode::Gap,
-            _ => self.letter(),
+        match Kind::from(byte) {
+            Kind::Blank => self.mode = Mode::Gap,
+            Kind::Comment => self.mode = Mode::Comment,
+            Kind::Opening => self.open(),
+            Kind::Closing => self.close()?,
+            Kind::Letter => self.letter(),
         }
         Ok(())
     }

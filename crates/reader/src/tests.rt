@@ -56,8 +56,7 @@ fn takes_brackets_of_any_depth(rt: HostRuntime) -> Result<(), Fail> {
 // The tokens of a text, each with a blank behind it.
 fn spaced(heap: Global, text: &[u8]) -> Result<Vec<u8>, AllocError> {
     let mut out = Vec::new(heap);
-    let mut tokens = Tokens::new(text);
-    while let Some(token) = tokens.next() {
+    for token in Tokens::new(text) {
         match token {
             Token::Open => out.push(b'(')?,
             Token::Close => out.push(b')')?,

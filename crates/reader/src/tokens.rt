@@ -1,6 +1,11 @@
 // The tokens of a text one after another, from left to right: brackets and words.
-ghost use Rattle.std.specs.Prelude.{◌≡◌, ◌<◌, ◌≤◌, length};
-ghost use Rattle.reader.specs.Next.{kind_of, stream, SkipTo, CommentTo, WordTo, NextSays, PeekSays};
+ghost use Rattle.std.specs.Prelude.{◌≡◌, length};
+ghost use Rattle.std.specs.Iterator.{at_most};
+ghost use Rattle.std.specs.List.{prefix_len};
+ghost use Rattle.hol.specs.Text.{in_words};
+ghost use Rattle.reader.specs.Next.{stream, SkipTo, CommentTo, NextSays, PeekSays};
+
+use crate::kind::Kind;
 
 #[derive(Clone, Copy)]
 pub enum Token<'a> {
@@ -9,115 +14,54 @@ pub enum Token<'a> {
     Word(&'a [u8]),
 }
 
-// The tokens of `text` from the byte at `at` on.
+// The tokens of the bytes that are ahead.
 #[derive(Clone, Copy)]
 pub struct Tokens<'a> {
-    pub text: &'a [u8],
-    pub at: usize,
-}
-
-// What a byte is where no word and no comment goes on.
-#[derive(Clone, Copy)]
-pub enum Kind {
-    Blank,
-    Comment,
-    Opening,
-    Closing,
-    Letter,
-}
-
-fn kind_of(byte: u8) -> Kind
-    ensures { result ≡ kind_of byte }
-{
-    match byte {
-        b' ' | b'\n' | b'\r' | b'\t' => Kind::Blank,
-        b';' => Kind::Comment,
-        b'(' => Kind::Opening,
-        b')' => Kind::Closing,
-        _ => Kind::Letter,
-    }
+    pub rest: &'a [u8],
 }
 
 // What ends a comment.
 pub(crate) const LINE_FEED: u8 = b'\n';
 
-// Behind the comment that goes on at `at`: behind the next line feed.
-fn comment_end(text: &[u8], at: usize) -> usize
-    requires { at ≤ length text.now }
-    ensures { CommentTo text.now at result }
+// What is behind the comment that goes on with the text: behind the first line feed.
+fn behind_comment(text: &[u8]) -> &[u8]
+    ensures { CommentTo text.now result.now }
 {
-    let mut end = at;
-    while end < text.len() {
-        if text[end] == LINE_FEED {
-            return end + 1;
-        }
-        end += 1;
+    match text.iter().position(|byte| *byte == LINE_FEED) {
+        Some(end) => &text[end + 1..],
+        None => &[],
     }
-    end
 }
 
-// Behind the word that begins at `start`.
-fn word_end(text: &[u8], start: usize) -> usize
-    requires { start < length text.now }
-    ensures { WordTo text.now start result }
+// How many bytes from the first on stand in words.
+fn word_length(text: &[u8]) -> usize
+    ensures { result ≡ prefix_len in_words text.now }
 {
-    let mut end = start + 1;
-    while end < text.len() {
-        match kind_of(text[end]) {
-            Kind::Letter => end += 1,
-            _ => return end,
-        }
-    }
-    end
+    text.iter()
+        .take_while(|byte| matches!(Kind::from(**byte), Kind::Letter))
+        .count()
 }
 
-// Past the blanks and comments at `at`.
-pub(crate) fn skip(text: &[u8], at: usize) -> usize
-    ensures { SkipTo text.now at result }
+// What is behind the blanks and comments that the text begins with.
+pub(crate) fn skip(mut text: &[u8]) -> &[u8]
+    ensures { SkipTo text.now result.now }
 {
-    let mut start = at;
-    while start < text.len() {
-        match kind_of(text[start]) {
-            Kind::Blank => start += 1,
-            Kind::Comment => start = comment_end(text, start + 1),
-            _ => return start,
+    while let [byte, behind @ ..] = text {
+        match Kind::from(*byte) {
+            Kind::Blank => text = behind,
+            Kind::Comment => text = behind_comment(behind),
+            _ => return text,
         }
     }
-    start
+    text
 }
 
 impl<'a> Tokens<'a> {
     // All tokens of `text`.
     pub fn new(text: &'a [u8]) -> Tokens<'a>
-        ensures { (result.text ≡ text.entry) × (result.at ≡ 0) }
+        ensures { result.rest ≡ text.entry }
     {
-        Tokens { text, at: 0 }
-    }
-
-    // The next token, which is then behind.
-    pub fn next(&mut self) -> Option<Token<'a>>
-        ensures { NextSays self.old self.new result }
-    {
-        let text = self.text;
-        let start = skip(text, self.at);
-        if start >= text.len() {
-            return None;
-        }
-        match kind_of(text[start]) {
-            Kind::Opening => {
-                self.at = start + 1;
-                Some(Token::Open)
-            }
-            Kind::Closing => {
-                self.at = start + 1;
-                Some(Token::Close)
-            }
-            _ => {
-                let end = word_end(text, start);
-                self.at = end;
-                Some(Token::Word(&text[start..end]))
-            }
-        }
+        Tokens { rest: text }
     }
 
     // The next token, which stays ahead.
@@ -126,5 +70,31 @@ impl<'a> Tokens<'a> {
     {
         let mut ahead = *self;
         ahead.next()
+    }
+}
+
+impl<'a> Iterator for Tokens<'a> {
+    type Item = Token<'a>;
+
+    ghost next_gives = { λ s r e. NextSays s e r };
+
+    ghost remaining = { λ s. at_most (length s.rest.now) };
+
+    // The next token, which is then behind.
+    fn next(&mut self) -> Option<Token<'a>> {
+        let text = skip(self.rest);
+        let [byte, behind @ ..] = text else {
+            return None;
+        };
+        let (token, behind) = match Kind::from(*byte) {
+            Kind::Opening => (Token::Open, behind),
+            Kind::Closing => (Token::Close, behind),
+            _ => {
+                let (word, behind) = text.split_at(word_length(text));
+                (Token::Word(word), behind)
+            }
+        };
+        self.rest = behind;
+        Some(token)
     }
 }

@@ -1,5 +1,3 @@
--- a frame after a call above it
-pub mod Above
 -- what the stack's words hold
 pub mod Stack
 -- one lemma for each move of the machine
@@ -8,7 +6,7 @@ pub mod Steps
 pub mod Loop
 -- the definitions of opening, closing and substitution are changes of leaves
 pub mod Changes
--- what the instances do at leaves
+-- what type substitution does at leaves
 pub mod Leaves
--- tests of free variables, and looking one up among entries
+-- looking a free variable up among entries
 pub mod Variables

@@ -6,15 +6,14 @@ use Rattle.hol.specs.Syntax.{Tm}
 use Rattle.store.specs.Measures.{nodes_tm}
 use Rattle.store.specs.State.{Contents, Keeps, State, Grows}
 use Rattle.store.specs.Builds.{Made}
-use Rattle.stack.specs.Frames.{held, Within, Same}
-use Rattle.stack.specs.declared.frame.Frame.{Frame}
+use Rattle.lent.specs.Piles.{Pile}
 use Rattle.store.proofs.Growth.{grows_on, grows-more, grows_same}
-use Rattle.stack.proofs.Lent.{same_trans}
+use Rattle.waits.specs.Codes.{code}
 use Rattle.rebuild.specs.Rebuilt.{Change, rebuilt}
-use Rattle.rebuild.specs.Machine.{Path, root, function_of, argument_of, body_of, pending, code, Holds, holds_root, holds_function, holds_argument, holds_body, Point, down, outcome, spent, weight, moves, At, at_down, at_up, at_end, Moved, Stuck}
+use Rattle.rebuild.specs.Machine.{Path, root, pending, Holds, holds_root, holds_function, holds_argument, holds_body, Point, down, outcome, spent, weight, moves, At, at_down, at_up, at_end, Moved, Stuck}
 use Rattle.rebuild.specs.declared.turn.Turn.{Turn}
 use Rattle.rebuild.specs.declared.turn.Turn.TheVariants.{Down, Up, End}
-use Rattle.rebuild.specs.declared.turn.Wait.TheVariants.{Function}
+use Rattle.waits.specs.declared.Wait.TheVariants.{Function}
 
 -- THE MEASURE: moves to come, for the words and for the turn
 abbrev pub word-moves : Contents → List ℕ → ℕ
@@ -44,21 +43,6 @@ moves_are {c = c} (at_down {n = n} {u = u} e h q) =
 moves_are (at_up e h q) = word_moves_are h
 moves_are (at_end e) = refl
 
--- the end has no move, and nothing else is the end
-pub still : {d : ℕ} {c : Contents} {ws : List ℕ} {n : ℕ} {x : Point} → At d c ws (End n) x → 0 < moves x → ⊥
-still (at_end e) l = omega arith
-
-pending_some : (p : Path) → 0 < pending p
-pending_some root = omega arith
-pending_some (function_of x p) = omega arith
-pending_some (argument_of f p) = omega arith
-pending_some (body_of a p) = omega arith
-
-pub going : {d : ℕ} {c : Contents} {ws : List ℕ} {turn : Turn} {x : Point} → At d c ws turn x → ((n : ℕ) → turn ≡ End n → ⊥) → 0 < moves x
-going (at_down e h q) l = omega arith
-going (at_up {p = p} e h q) l = pending_some p
-going (at_end {n = n} e) l = absurd (l n refl)
-
 -- WHAT EVERY TURN KEEPS. From the state s and the term u the loop came to the state t, the words ws and this turn.
 pub record Way (Does : Contents → Type 0) (F : Change) (d : ℕ) (s : State) (u : Tm) (t : State) (ws : List ℕ) (turn : Turn) : Type 0 where
   pub to : Point
@@ -67,17 +51,6 @@ pub record Way (Does : Contents → Type 0) (F : Change) (d : ℕ) (s : State) (
   pub outcome : outcome F d to ≡ rebuilt F d u
   pub grows : Grows (spent to) s t
   pub weight : weight to ≤ nodes_tm u
-
-pub set_out : (Does : Contents → Type 0) (F : Change) (d : ℕ) (s : State) (u : Tm) (ws : List ℕ) (n : ℕ) → ws ≡ [] → Does s.contents
-    → s.contents.term n ≡ some u → Way Does F d s u s ws (Down n d)
-set_out Does F d s u ws n q e i = record {
-  to = down root u;
-  at = rw q (at_down i holds_root refl);
-  does = e;
-  outcome = refl;
-  grows = grows_same;
-  weight = omega arith;
-}
 
 module _ {Does : Contents → Type 0} {F : Change} {d : ℕ} {s t u : State} {x : Tm} {ws vs : List ℕ} {turn next : Turn}
     (w : Way Does F d s x t ws turn) (m : Moved F d t u vs w.to next) where
@@ -103,39 +76,50 @@ arrives {F = F} {d = d} {s = s} {t = t} {x = x} {ws = ws} {n = n} w = go w.at w.
         → Made (nodes_tm (rebuilt F d x)) s t (λ c k. c.term k ≡ some (rebuilt F d x)) n
     go (at_end e) q g = let l = ap nodes_tm q in record { grows = grows-more (omega arith) g; stands = e ∙ ap some q }
 
--- refused on the way
-pub refused : {Does : Contents → Type 0} {F : Change} {d : ℕ} {s t : State} {x : Tm} {ws : List ℕ} {turn : Turn} (room capacity : ℕ)
-    (w : Way Does F d s x t ws turn) → capacity ≡ room → Stuck F d capacity t w.to
-    → (room < 4 * nodes_tm x) ⊎ (s.left < nodes_tm (rebuilt F d x))
-refused room capacity w q (inl l) = let m = w.weight in inl (omega arith)
-refused room capacity w q (inr l) = let g = w.grows.cost in let i = ap nodes_tm w.outcome in inr (omega arith)
+-- THE INVARIANT, for a loop that began with the number n in the state s and the stack p, and is at the stack q
+pub record Running (Does : Contents → Change → Type 0) (s : State) (n d : ℕ) (p : Pile) (t : State) (q : Pile) (turn : Turn) : Type 0 where
+  pub capacity : q.capacity ≡ p.capacity
+  pub ways : (F : Change) (x : Tm) → Does s.contents F → s.contents.term n ≡ some x → Way (λ c. Does c F) F d s x t q.held turn
 
--- THE INVARIANT, for a loop that began with the number n in the state s and the frame f, and is at the frame h
-pub record Running (Does : Contents → Change → Type 0) (s : State) (n d : ℕ) (f : Frame) (t : State) (h : Frame) (turn : Turn) : Type 0 where
-  pub within : Within h
-  pub same : Same f h
-  pub top_name : h.top.ghost_name ≡ f.top.ghost_name
-  pub words_name : h.words.ghost_name ≡ f.words.ghost_name
-  pub ways : (F : Change) (x : Tm) → Does s.contents F → s.contents.term n ≡ some x
-      → Way (λ c. Does c F) F d s x t (held h) turn
+pub set_out : (Does : Contents → Change → Type 0) (s : State) (n d : ℕ) (p : Pile) → p.held ≡ [] → Running Does s n d p s p (Down n d)
+set_out Does s n d p h = record {
+  capacity = refl;
+  ways = λ F x e i. record {
+    to = down root x;
+    at = rw h (at_down i holds_root refl);
+    does = e;
+    outcome = refl;
+    grows = grows_same;
+    weight = omega arith;
+  };
+}
 
-module _ {Does : Contents → Change → Type 0} {s t u : State} {n d : ℕ} {turn next : Turn} {f : Frame} (g h : Frame)
-    (k : Running Does s n d f t g turn) (shallow : d < 2 ^ 63) (going_on : (i : ℕ) → turn ≡ End i → ⊥)
-    (moved : (F : Change) (b : ℕ) (x : Point) → Does t.contents F → At b t.contents (held g) turn x → b < 2 ^ 63 → 0 < moves x
-    → Moved F b t u (held h) x next) where
-  one-turn : (F : Change) {x : Tm} (w : Way (λ c. Does c F) F d s x t (held g) turn) → Moved F d t u (held h) w.to next
-  one-turn F w = moved F d w.to w.does w.at shallow (going w.at going_on)
+-- one turn, which is `now`
+module _ {Does : Contents → Change → Type 0} {s t : State} {n d : ℕ} {turn now : Turn} {p : Pile} (q : Pile)
+    (k : Running Does s n d p t q turn) (shallow : d < 2 ^ 63) (is : turn ≡ now) where
+  module _ {u : State} {next : Turn} (r : Pile)
+      (moved : (F : Change) (b : ℕ) (x : Point) → Does t.contents F → At b t.contents q.held now x → b < 2 ^ 63
+      → Moved F b t u r.held x next) where
+    one-turn : (F : Change) {x : Tm} (w : Way (λ c. Does c F) F d s x t q.held turn) → Moved F d t u r.held w.to next
+    one-turn F w = moved F d w.to w.does (rw is at w.at) shallow
 
-  pub again : ((c e : Contents) (F : Change) → Keeps c e → Does c F → Does e F) → Within h → Same g h → h.top.ghost_name ≡ g.top.ghost_name
-      → h.words.ghost_name ≡ g.words.ghost_name → Running Does s n d f u h next
-  again stays w q a b = record {
-    within = w;
-    same = same_trans k.same q;
-    top_name = a ∙ k.top_name;
-    words_name = b ∙ k.words_name;
-    ways = λ F x e i. let v = k.ways F x e i in goes_on v (one-turn F v) (λ c d. stays c d F);
-  }
+    pub again : ((c e : Contents) (F : Change) → Keeps c e → Does c F → Does e F) → r.capacity ≡ q.capacity → Running Does s n d p u r next
+    again stays c = record {
+      capacity = c ∙ k.capacity;
+      ways = λ F x e i. let v = k.ways F x e i in goes_on v (one-turn F v) (λ c e. stays c e F);
+    }
 
-  pub less : (F : Change) (x : Tm) → Does s.contents F → s.contents.term n ≡ some x
-      → turn-moves u.contents (held h) next < turn-moves t.contents (held g) turn
-  less F x e i = let v = k.ways F x e i in falls v (one-turn F v)
+    pub less : (F : Change) (x : Tm) → Does s.contents F → s.contents.term n ≡ some x
+        → turn-moves u.contents r.held next < turn-moves t.contents q.held turn
+    less F x e i = let v = k.ways F x e i in falls v (one-turn F v)
+
+  -- refused on the way
+  pub refused : ((F : Change) (b : ℕ) (x : Point) → Does t.contents F → At b t.contents q.held now x → b < 2 ^ 63 → Stuck F b q.capacity t x)
+      → (F : Change) (x : Tm) → Does s.contents F → s.contents.term n ≡ some x
+      → (p.capacity < 4 * nodes_tm x) ⊎ (s.left < nodes_tm (rebuilt F d x))
+  refused stuck F x e i =
+      let w = k.ways F x e i in
+      elim (stuck F d w.to w.does (rw is at w.at) shallow) [
+        | inl l ↦ let m = w.weight in let c = k.capacity in inl (omega arith)
+        | inr l ↦ let g = w.grows.cost in let o = ap nodes_tm w.outcome in inr (omega arith)
+      ]

@@ -4,10 +4,11 @@ use mathlib.Core.Option.{some}
 use Rattle.hol.specs.Syntax.{Ty, Tm, app, lam}
 use Rattle.store.specs.Measures.{nodes_tm}
 use Rattle.store.specs.State.{Contents, Keeps}
+use Rattle.waits.specs.Codes.{code}
 use Rattle.rebuild.specs.Rebuilt.{Change, rebuilt}
-use Rattle.rebuild.specs.Machine.{Path, root, function_of, argument_of, body_of, deep, plug, finished, waiting, code, Holds, holds_root, holds_function, holds_argument, holds_body}
-use Rattle.rebuild.specs.declared.turn.Wait.{Wait}
-use Rattle.rebuild.specs.declared.turn.Wait.TheVariants.{Function, Argument, Body}
+use Rattle.rebuild.specs.Machine.{Path, root, function_of, argument_of, body_of, deep, plug, finished, waiting, Holds, holds_root, holds_function, holds_argument, holds_body}
+use Rattle.waits.specs.declared.Wait.{Wait}
+use Rattle.waits.specs.declared.Wait.TheVariants.{Function, Argument, Body}
 
 -- what the words hold stays
 pub holds_kept : {c d : Contents} {ws : List ℕ} {p : Path} → Keeps c d → Holds c ws p → Holds d ws p

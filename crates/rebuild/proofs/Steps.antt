@@ -5,15 +5,16 @@ use Rattle.hol.specs.Syntax.{Ty, Tm, fvar, bvar, const, app, lam}
 use Rattle.store.specs.Measures.{nodes_ty, nodes_tm}
 use Rattle.store.specs.State.{Contents, State}
 use Rattle.store.specs.Builds.{Made, Full, IsApp, IsLam}
-use Rattle.store.specs.Views.{TermSays, ViewFree, ViewConstant, ViewApply}
+use Rattle.store.specs.Views.{TermSays, ViewFree, ViewConstant, ViewApply, ViewLambda}
 use Rattle.store.specs.declared.view.TermView.{TermView}
 use Rattle.store.specs.declared.view.TermView.TheVariants.{Free, Bound, Constant}
 use Rattle.store.proofs.Growth.{grows_same}
+use Rattle.waits.specs.Codes.{code}
 use Rattle.rebuild.specs.Rebuilt.{Change, rebuilt, is_leaf}
-use Rattle.rebuild.specs.Machine.{Path, function_of, argument_of, body_of, deep, plug, code, Holds, holds_root, holds_function, holds_argument, holds_body, Point, down, up, end, outcome, spent, At, at_down, at_up, at_end, Moved, Stuck}
+use Rattle.rebuild.specs.Machine.{Path, function_of, argument_of, body_of, deep, plug, Holds, holds_root, holds_function, holds_argument, holds_body, Point, down, up, end, outcome, spent, At, at_down, at_up, at_end, Moved, Stuck}
 use Rattle.rebuild.specs.declared.turn.Turn.TheVariants.{Down, Up, End}
-use Rattle.rebuild.specs.declared.turn.Wait.{Wait}
-use Rattle.rebuild.specs.declared.turn.Wait.TheVariants.{Function, Argument, Body}
+use Rattle.waits.specs.declared.Wait.{Wait}
+use Rattle.waits.specs.declared.Wait.TheVariants.{Function, Argument, Body}
 use Rattle.rebuild.proofs.Stack.{holds_kept, held-length, held-deep, done-fits, Top, top, top_function, top_argument, top-body}
 
 leaf-rebuilt : (F : Change) (n : ℕ) (u : Tm) → is_leaf u ≡ true → rebuilt F n u ≡ F.leaf n u
@@ -39,16 +40,17 @@ going_down P (at_down {u = u} {p = p} e h q) f = f p u e h q
 pub down-stands : {d : ℕ} {c : Contents} {ws : List ℕ} {n k : ℕ} {x : Point} → At d c ws (Down n k) x → (u : Tm) × (c.term n ≡ some u)
 down-stands (at_down {u = u} e h q) = (u, e)
 
-pub going_under : {b : Ty} {t u : Tm} (P : Point → Type 0) (p : Path) → u ≡ lam b t → P (down p (lam b t)) → P (down p u)
-going_under P p e h = subst (λ (w : Tm). P (down p w)) (sym e) h
+pub going_under : {c : Contents} {a body : ℕ} {u : Tm} (P : Point → Type 0) (p : Path) (v : ViewLambda c a body u) → P (down p (lam v.ty v.body))
+    → P (down p u)
+going_under P p v h = subst (λ (w : Tm). P (down p w)) (sym v.is) h
 
 module _ (F : Change) (d : ℕ) (s t : State) (ws : List ℕ) (p : Path) (h : Holds s.contents ws p) (k : ℕ) (q : k ≡ deep d p) where
   -- A LEAF is done
-  pub leaf-done : (u : Tm) → is_leaf u ≡ true → (vs : List ℕ) → vs ≡ ws → (m : ℕ)
-      → Made (nodes_tm (F.leaf k u)) s t (λ c n. c.term n ≡ some (F.leaf k u)) m → Moved F d s t vs (down p u) (Up m k)
-  leaf-done u l vs e m b = record {
+  pub leaf-done : (u : Tm) → is_leaf u ≡ true → (m : ℕ) → Made (nodes_tm (F.leaf k u)) s t (λ c n. c.term n ≡ some (F.leaf k u)) m
+      → Moved F d s t ws (down p u) (Up m k)
+  leaf-done u l m b = record {
     to = up p (F.leaf k u);
-    at = at_up b.stands (rw e (holds_kept b.grows.keeps h)) q;
+    at = at_up b.stands (holds_kept b.grows.keeps h) q;
     outcome = rw (q, leaf-rebuilt F (deep d p) u l) refl;
     cost = nodes_tm (F.leaf k u);
     grows = b.grows;
@@ -58,7 +60,7 @@ module _ (F : Change) (d : ℕ) (s t : State) (ws : List ℕ) (p : Path) (h : Ho
   }
 
   -- no room for a leaf
-  pub leaf_stuck : (u : Tm) → is_leaf u ≡ true → (capacity room : ℕ) → capacity ≡ room + length ws
+  pub leaf_stuck : (u : Tm) → is_leaf u ≡ true → (capacity room : ℕ) → room ≡ capacity - length ws
       → (room < 4 * nodes_tm u) ⊎ (s.left < nodes_tm (F.leaf k u)) → Stuck F d capacity s (down p u)
   leaf_stuck u l capacity room e (inl a) = let i = held-length h in inl (omega arith)
   leaf_stuck u l capacity room e (inr a) =
@@ -68,12 +70,12 @@ module _ (F : Change) (d : ℕ) (s t : State) (ws : List ℕ) (p : Path) (h : Ho
       inr (omega arith)
 
   -- A λ: what becomes of its type waits for the body
-  pub into_lambda : (b : Ty) (u : Tm) (body j : ℕ) → s.contents.term body ≡ some u → j ≡ k + 1 → (us vs : List ℕ) → vs ≡ ws → (m : ℕ)
-      → us ≡ code Body ∷ m ∷ vs → Made (nodes_ty (F.typ b)) s t (λ c n. c.typ n ≡ some (F.typ b)) m
+  pub into_lambda : (b : Ty) (u : Tm) (body j : ℕ) → s.contents.term body ≡ some u → j ≡ k + 1 → (us : List ℕ) (m : ℕ)
+      → us ≡ code Body ∷ m ∷ ws → Made (nodes_ty (F.typ b)) s t (λ c n. c.typ n ≡ some (F.typ b)) m
       → Moved F d s t us (down p (lam b u)) (Down body j)
-  into_lambda b u body j e i us vs o m r a = record {
+  into_lambda b u body j e i us m r a = record {
     to = down (body_of (F.typ b) p) u;
-    at = at_down (a.grows.keeps.term body u e) (holds_body r a.stands (rw o (holds_kept a.grows.keeps h))) (i ∙ ap (λ n. n + 1) q);
+    at = at_down (a.grows.keeps.term body u e) (holds_body r a.stands (holds_kept a.grows.keeps h)) (i ∙ ap (λ n. n + 1) q);
     outcome = refl;
     cost = nodes_ty (F.typ b);
     grows = a.grows;
@@ -83,7 +85,7 @@ module _ (F : Change) (d : ℕ) (s t : State) (ws : List ℕ) (p : Path) (h : Ho
   }
 
   -- no room for the type of a λ
-  pub lambda_stuck : (b : Ty) (u : Tm) (capacity room : ℕ) → capacity ≡ room + length ws
+  pub lambda_stuck : (b : Ty) (u : Tm) (capacity room : ℕ) → room ≡ capacity - length ws
       → (room < 4 * nodes_ty b) ⊎ (s.left < nodes_ty (F.typ b)) → Stuck F d capacity s (down p (lam b u))
   lambda_stuck b u capacity room e (inl a) = let i = held-length h in inl (omega arith)
   lambda_stuck b u capacity room e (inr a) = let i = done-fits F d p (rebuilt F (deep d p) (lam b u)) in inr (omega arith)
@@ -93,8 +95,9 @@ module _ (F : Change) (d : ℕ) (s t : State) (ws : List ℕ) (p : Path) (h : Ho
   lambda_no_place b u capacity l = let i = held-length h in inl (omega arith)
 
   -- no term is so deep that its depth is no word
-  pub shallow : d < 2 ^ 63 → length ws < 2 ^ 64 → k + 1 < 2 ^ 64
-  shallow a b = let i = held-deep d h in omega arith
+  pub too_deep : (b : Ty) (u : Tm) (capacity : ℕ) → d < 2 ^ 63 → length ws < 2 ^ 64 → (k + 1 < 2 ^ 64 → ⊥)
+      → Stuck F d capacity s (down p (lam b u))
+  too_deep b u capacity l m n = let i = held-deep d h in absurd (n (omega arith))
 
   -- AN APPLICATION: its argument waits for its function
   pub into_apply : (u : Tm) (g x : ℕ) → ViewApply s.contents g x u → (vs : List ℕ) → vs ≡ code Function ∷ x ∷ ws

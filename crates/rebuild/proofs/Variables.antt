@@ -1,46 +1,22 @@
--- Whether two free variables are the same, and looking one up among entries that lie in words.
+-- Looking a free variable up among entries that lie in words.
 use Rattle.std.proofs.Common.{◌≡◌, ℕ, suc, ◌-◌, ◌<◌, ◌≤◌, Bool, true, false, List, [], ◌∷◌, length, get_or, take, drop, Some, None, sym, refl, ap, ◌∙◌, subst, arith, take_all}
 use mathlib.Core.Option.{some}
 use Rattle.hol.specs.Base.{Word}
 use Rattle.hol.specs.Syntax.{Ty, Tm, fvar, same_var, Subst, find_tm}
 use Rattle.store.specs.State.{State, Stays}
-use Rattle.store.proofs.Growth.{stays_same, stays_on}
-use Rattle.rebuild_types.proofs.Tests.{word_test, type_test}
+use Rattle.store.proofs.Growth.{stays_on}
 use Rattle.rebuild.specs.Instances.{Entries, entry, Finds}
 
 -- the test of a variable of the number x and the type a against another, in the state s
 abbrev pub Tested : State → (x a y b : ℕ) → Bool → Type 0
 Tested s x a y b r = (v : Word) (c : Ty) (w : Word) (d : Ty) → s.contents.word x ≡ some v → s.contents.typ a ≡ some c
-    → s.contents.word y ≡ some w → s.contents.typ b ≡ some d → same_var v c w d ≡ r
+    → s.contents.word y ≡ some w → s.contents.typ b ≡ some d → r ≡ same_var v c w d
 
-pub both_tested : (s t : State) → Stays s t → (x a y b : ℕ) (p q : Bool)
-    → (p ≡ true → s.contents.word x ≡ s.contents.word y)
-    → ((u : Word) → s.contents.word x ≡ some u → s.contents.word y ≡ some u → p ≡ true)
-    → (q ≡ true → t.contents.typ a ≡ t.contents.typ b)
-    → ((u : Ty) → t.contents.typ a ≡ some u → t.contents.typ b ≡ some u → q ≡ true)
-    → p ≡ true → Tested s x a y b q
-both_tested s t g x a y b p q ps pc qs qc h v c w d e₁ e₂ e₃ e₄ =
-    let k = g.grows.keeps.typ in
-    let i = word_test p (s.contents.word x) (s.contents.word y) ps pc v w e₁ e₃ ∙ h in
-    let j = type_test q (t.contents.typ a) (t.contents.typ b) qs qc c d (k a c e₂) (k b d e₄) in
-    rw (i, j) refl
-
-pub name_differs : (s : State) (x a y b : ℕ) (p : Bool)
-    → (p ≡ true → s.contents.word x ≡ s.contents.word y)
-    → ((u : Word) → s.contents.word x ≡ some u → s.contents.word y ≡ some u → p ≡ true)
-    → p ≡ false → Tested s x a y b false
-name_differs s x a y b p ps pc h v c w d e₁ e₂ e₃ e₄ =
-    let i = word_test p (s.contents.word x) (s.contents.word y) ps pc v w e₁ e₃ ∙ h in
-    rw i refl
-
--- LOOKUP. Of the words, those before the rest have been looked at: what the rest has for the variable is what all have.
+-- Of the words, those before the rest have been looked at: what the rest has for the variable is what all have.
 pub record Seeking (s t : State) (words rest : List ℕ) (x a : ℕ) : Type 0 where
   pub stays : Stays s t
   pub same : (es : Subst) (w : Word) (b : Ty) → Entries s.contents words es → s.contents.word x ≡ some w → s.contents.typ a ≡ some b
       → (fs : Subst) × Entries s.contents rest fs × (find_tm fs w b ≡ find_tm es w b)
-
-pub start : (s : State) (words : List ℕ) (x a : ℕ) → Seeking s s words words x a
-start s words x a = record { stays = stays_same; same = λ es w b e h i. (es, e, refl) }
 
 -- the words behind the first three
 abbrev pub tail : List ℕ → List ℕ
@@ -76,7 +52,7 @@ module _ (s t u : State) (words rest : List ℕ) (x a : ℕ) (r : Bool) (h : 3 �
           → (fs : Subst) × Entries s.contents (get_or rest 0 0 ∷ get_or rest 1 0 ∷ get_or rest 2 0 ∷ tail rest) fs × (find_tm fs w b ≡ o)
           → (fs : Subst) × Entries s.contents (tail rest) fs × (find_tm fs w b ≡ o)
       go w b i j ([], e, p) = elim e [ ]
-      go w b i j (f ∷ fs, entry {w = v} {b = d} e₁ e₂ e₃ es, p) = (fs, es, rw (tested w b v d i j e₁ e₂, l) at p)
+      go w b i j (f ∷ fs, entry {w = v} {b = d} e₁ e₂ e₃ es, p) = (fs, es, rw (sym (tested w b v d i j e₁ e₂) ∙ l) at p)
 
   -- the variable sought
   pub found : r ≡ true → (es : Subst) (w : Word) (b : Ty) → Entries s.contents words es → s.contents.word x ≡ some w
@@ -87,7 +63,7 @@ module _ (s t u : State) (words rest : List ℕ) (x a : ℕ) (r : Bool) (h : 3 �
           → (fs : Subst) × Entries s.contents (get_or rest 0 0 ∷ get_or rest 1 0 ∷ get_or rest 2 0 ∷ tail rest) fs × (find_tm fs w b ≡ o)
           → s.contents.term (get_or rest 2 0) ≡ some o
       go i j ([], e, p) = elim e [ ]
-      go {w} {b} i j (f ∷ fs, entry {w = v} {b = d} e₁ e₂ e₃ es, p) = e₃ ∙ ap some (sym (rw (tested w b v d i j e₁ e₂, l) refl) ∙ p)
+      go {w} {b} i j (f ∷ fs, entry {w = v} {b = d} e₁ e₂ e₃ es, p) = e₃ ∙ ap some (sym (rw (sym (tested w b v d i j e₁ e₂) ∙ l) refl) ∙ p)
 
 -- fewer than three words are left: no entry
 pub missed : (s t : State) (words rest : List ℕ) (x a : ℕ) → Seeking s t words rest x a → length rest < 3

@@ -9,8 +9,8 @@ use Rattle.lent.specs.declared.NoRoom.{NoRoom}
 use Rattle.rebuild.specs.Rebuilt.{Change, rebuilt}
 use Rattle.rebuild.specs.declared.turn.Turn.{Turn}
 use Rattle.rebuild.specs.declared.turn.Turn.TheVariants.{Down, Up, End}
-use Rattle.rebuild.specs.declared.turn.Wait.{Wait}
-use Rattle.rebuild.specs.declared.turn.Wait.TheVariants.{Function, Argument, Body}
+use Rattle.waits.specs.Codes.{code}
+use Rattle.waits.specs.declared.Wait.TheVariants.{Function, Argument, Body}
 
 -- What is around the part at hand, from inside out.
 --   function_of x p   the function of an application; x is its argument, to be done
@@ -58,11 +58,6 @@ pending (argument_of f p) = 1 + pending p
 pending (body_of a p) = 1 + pending p
 
 -- The words of the stack, two for each step of a path: what waits, and the number that it keeps.
-abbrev pub code : Wait → ℕ
-code Function = 0
-code Argument = 1
-code Body = 2
-
 pub data Holds (c : Contents) : List ℕ → Path → Type 0 where
   holds_root : Holds c [] root
   holds_function : {ws vs : List ℕ} {n : ℕ} {x : Tm} {p : Path} → ws ≡ code Function ∷ n ∷ vs → c.term n ≡ some x → Holds c vs p

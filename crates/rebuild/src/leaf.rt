@@ -1,10 +1,9 @@
 // What is done at the leaves of a term, and to the types of its λs, as the term is built anew.
-ghost use Rattle.std.specs.Prelude.{◌≡◌, ℕ, ◌-◌, ◌≤◌, true, List, length};
+ghost use Rattle.std.specs.Prelude.{◌≡◌, true, length};
 ghost use Rattle.std.proofs.Math.Option.{some};
 ghost use Rattle.hol.specs.Syntax.{Ty, Tm};
 ghost use Rattle.store.specs.Measures.{nodes_ty, nodes_tm};
 ghost use Rattle.store.specs.State.{Contents, Keeps};
-ghost use Rattle.stack.specs.Frames.{Restores};
 ghost use Rattle.rebuild_types.specs.Rebuilds.{Rebuilds};
 ghost use Rattle.rebuild.specs.Rebuilt.{Change, is_leaf};
 
@@ -12,39 +11,20 @@ use lent::NoRoom;
 use store::Store;
 
 pub trait Leaf<S: Store> {
-    // Which change it is, with these entries, where numbers stand for this. Opening and closing have no entries.
-    ghost does: { Self → List ℕ → Contents → Change → Type 0 };
+    // Which change it is, where numbers stand for this.
+    ghost does: { Self → Contents → Change → Type 0 };
 
     // What becomes of the leaf `t` under `depth` λs.
-    fn leaf(
-        &self,
-        store: &mut S,
-        entries: &[u64],
-        words: &mut [u64],
-        top: &mut usize,
-        t: u64,
-        depth: u64,
-    ) -> Result<u64, NoRoom>
-        requires stack { top.old ≤ length words.old }
-        requires does { (F : Change) × does self.now entries.now (S.state store.old).contents F }
+    fn leaf(&self, store: &mut S, words: &mut [u64], t: u64, depth: u64) -> Result<u64, NoRoom>
+        requires does { (F : Change) × does self.now (S.state store.old).contents F }
         requires stands { (u : Tm) × ((S.state store.old).contents.term t ≡ some u) }
-        ensures stack { Restores words.old top.old words.new top.new }
-        ensures made { (F : Change) (u : Tm) → does self.now entries.now (S.state store.old).contents F → (S.state store.old).contents.term t ≡ some u → is_leaf u ≡ true → Rebuilds (length words.old - top.old) (nodes_tm u) (nodes_tm (F.leaf depth u)) (S.state store.old) (S.state store.new) (λ d n. d.term n ≡ some (F.leaf depth u)) result };
+        ensures { (F : Change) (u : Tm) → does self.now (S.state store.old).contents F → (S.state store.old).contents.term t ≡ some u → is_leaf u ≡ true → Rebuilds (length words.old) (nodes_tm u) (nodes_tm (F.leaf depth u)) (S.state store.old) (S.state store.new) (λ d n. d.term n ≡ some (F.leaf depth u)) result };
 
     // What becomes of the type `a` of a λ.
-    fn typ(
-        &self,
-        store: &mut S,
-        entries: &[u64],
-        words: &mut [u64],
-        top: &mut usize,
-        a: u64,
-    ) -> Result<u64, NoRoom>
-        requires stack { top.old ≤ length words.old }
-        requires does { (F : Change) × does self.now entries.now (S.state store.old).contents F }
+    fn typ(&self, store: &mut S, words: &mut [u64], a: u64) -> Result<u64, NoRoom>
+        requires does { (F : Change) × does self.now (S.state store.old).contents F }
         requires stands { (b : Ty) × ((S.state store.old).contents.typ a ≡ some b) }
-        ensures stack { Restores words.old top.old words.new top.new }
-        ensures made { (F : Change) (b : Ty) → does self.now entries.now (S.state store.old).contents F → (S.state store.old).contents.typ a ≡ some b → Rebuilds (length words.old - top.old) (nodes_ty b) (nodes_ty (F.typ b)) (S.state store.old) (S.state store.new) (λ d n. d.typ n ≡ some (F.typ b)) result };
+        ensures { (F : Change) (b : Ty) → does self.now (S.state store.old).contents F → (S.state store.old).contents.typ a ≡ some b → Rebuilds (length words.old) (nodes_ty b) (nodes_ty (F.typ b)) (S.state store.old) (S.state store.new) (λ d n. d.typ n ≡ some (F.typ b)) result };
 
-    ghost stays: { (l : Self) (ws : List ℕ) (c d : Contents) (F : Change) → Keeps c d → does l ws c F → does l ws d F };
+    ghost stays: { (l : Self) (c d : Contents) (F : Change) → Keeps c d → does l c F → does l d F };
 }

@@ -1,15 +1,13 @@
 // Terms built anew over any store: opening, closing, substitution of terms and of types.
 #![tactic(auto)]
 
-ghost use Rattle.std.specs.Prelude.{◌≡◌, ℕ, ◌+◌, ◌-◌, ◌*◌, ◌^◌, ◌<◌, ◌≤◌, true, List, [], length};
+ghost use Rattle.std.specs.Prelude.{◌≡◌, ℕ, ◌^◌, ◌<◌, true, length};
 ghost use Rattle.std.proofs.Math.Option.{some};
 ghost use Rattle.hol.specs.Syntax.{Ty, Tm, lam};
-ghost use Rattle.store.specs.Measures.{nodes_ty, nodes_tm};
-ghost use Rattle.stack.specs.Frames.{held, capacity, Within, Same, Restores};
+ghost use Rattle.store.specs.Measures.{nodes_tm};
 ghost use Rattle.rebuild_types.specs.Rebuilds.{Rebuilds};
 ghost use Rattle.rebuild.specs.Rebuilt.{Change, rebuilt, is_leaf};
-ghost use Rattle.rebuild.specs.Machine.{Path, Holds, deep, Point, down, moves, At, Moves, code};
-ghost use Rattle.rebuild.specs.declared.turn.Wait.{Wait as Waits};
+ghost use Rattle.rebuild.specs.Machine.{Path, Holds, deep, Point, down, At, Moves};
 
 pub mod closing;
 pub mod instantiating;
@@ -20,198 +18,115 @@ pub mod turn;
 
 use leaf::Leaf;
 use lent::NoRoom;
-use stack::frame::Frame;
+use lent::stack::Stack;
 use store::Store;
 use store::view::TermView;
-use turn::{Turn, Wait};
-
-// What waits, by the word that stands for it on the stack.
-fn wait(k: u64) -> Wait
-    ensures { (w : Waits) → k ≡ code w → result ≡ w }
-{
-    if k == Wait::Function as u64 {
-        Wait::Function
-    } else if k == Wait::Argument as u64 {
-        Wait::Argument
-    } else {
-        Wait::Body
-    }
-}
+use turn::Turn;
+use waits::Wait;
 
 // A leaf: what becomes of it is done.
 fn at_leaf<S: Store, L: Leaf<S>>(
     store: &mut S,
     leaf: &L,
-    entries: &[u64],
-    f: &mut Frame<'_>,
+    stack: &mut Stack<'_>,
     t: u64,
     depth: u64,
 ) -> Result<Turn, NoRoom>
-    requires within { Within f.old }
-    requires does { (F : Change) × L.does leaf.now entries.now (S.state store.old).contents F }
+    requires does { (F : Change) × L.does leaf.now (S.state store.old).contents F }
     requires stands { (u : Tm) × ((S.state store.old).contents.term t ≡ some u) }
-    ensures within { Within f.new }
-    ensures same { Same f.old f.new }
-    ensures top_name { f.new.top.ghost_name ≡ f.old.top.ghost_name }
-    ensures words_name { f.new.words.ghost_name ≡ f.old.words.ghost_name }
-    ensures moves { (F : Change) (d : ℕ) (p : Path) (u : Tm) → L.does leaf.now entries.now (S.state store.old).contents F → (S.state store.old).contents.term t ≡ some u → is_leaf u ≡ true → Holds (S.state store.old).contents (held f.old) p → depth ≡ deep d p → Moves F d (capacity f.old) (S.state store.old) (S.state store.new) (held f.new) (down p u) result }
+    ensures stack { stack.new ≡ stack.old }
+    ensures moves { (F : Change) (d : ℕ) (p : Path) (u : Tm) → L.does leaf.now (S.state store.old).contents F → (S.state store.old).contents.term t ≡ some u → is_leaf u ≡ true → Holds (S.state store.old).contents stack.old.held p → depth ≡ deep d p → Moves F d stack.old.capacity (S.state store.old) (S.state store.new) stack.old.held (down p u) result }
 {
-    let mut above = *f.top;
-    match leaf.leaf(store, entries, f.words, &mut above, t, depth) {
-        Ok(n) => Ok(Turn::Up(n, depth)),
-        Err(e) => Err(e),
-    }
+    let n = leaf.leaf(store, &mut stack.words[stack.len..], t, depth)?;
+    Ok(Turn::Up(n, depth))
 }
 
 // A λ: what becomes of its type waits for its body.
 fn into_lambda<S: Store, L: Leaf<S>>(
     store: &mut S,
     leaf: &L,
-    entries: &[u64],
-    f: &mut Frame<'_>,
+    stack: &mut Stack<'_>,
     a: u64,
     body: u64,
     depth: u64,
 ) -> Result<Turn, NoRoom>
-    requires within { Within f.old }
-    requires does { (F : Change) × L.does leaf.now entries.now (S.state store.old).contents F }
+    requires does { (F : Change) × L.does leaf.now (S.state store.old).contents F }
     requires stands { (b : Ty) × ((S.state store.old).contents.typ a ≡ some b) }
-    ensures within { Within f.new }
-    ensures same { Same f.old f.new }
-    ensures top_name { f.new.top.ghost_name ≡ f.old.top.ghost_name }
-    ensures words_name { f.new.words.ghost_name ≡ f.old.words.ghost_name }
-    ensures moves { (F : Change) (d : ℕ) (p : Path) (b : Ty) (u : Tm) → L.does leaf.now entries.now (S.state store.old).contents F → (S.state store.old).contents.typ a ≡ some b → (S.state store.old).contents.term body ≡ some u → Holds (S.state store.old).contents (held f.old) p → depth ≡ deep d p → d < 2 ^ 63 → Moves F d (capacity f.old) (S.state store.old) (S.state store.new) (held f.new) (down p (lam b u)) result }
+    ensures capacity { stack.new.capacity ≡ stack.old.capacity }
+    ensures moves { (F : Change) (d : ℕ) (p : Path) (b : Ty) (u : Tm) → L.does leaf.now (S.state store.old).contents F → (S.state store.old).contents.typ a ≡ some b → (S.state store.old).contents.term body ≡ some u → Holds (S.state store.old).contents stack.old.held p → depth ≡ deep d p → d < 2 ^ 63 → Moves F d stack.old.capacity (S.state store.old) (S.state store.new) stack.new.held (down p (lam b u)) result }
 {
-    let mut above = *f.top;
-    let Some(under) = depth.checked_add(1) else {
-        return Err(NoRoom);
-    };
-    match leaf.typ(store, entries, f.words, &mut above, a) {
-        Ok(b) => {
-            if f.push_all(&[b, Wait::Body as u64]) {
-                Ok(Turn::Down(body, under))
-            } else {
-                Err(NoRoom)
-            }
-        }
-        Err(e) => Err(e),
-    }
+    let b = leaf.typ(store, &mut stack.words[stack.len..], a)?;
+    let under = depth.checked_add(1).ok_or(NoRoom)?;
+    stack.push_all(&[b, Wait::Body as u64])?;
+    Ok(Turn::Down(body, under))
 }
 
 // Down into a term.
 fn down<S: Store, L: Leaf<S>>(
     store: &mut S,
     leaf: &L,
-    entries: &[u64],
-    f: &mut Frame<'_>,
+    stack: &mut Stack<'_>,
     t: u64,
     depth: u64,
 ) -> Result<Turn, NoRoom>
-    requires within { Within f.old }
-    requires does { (F : Change) × L.does leaf.now entries.now (S.state store.old).contents F }
+    requires does { (F : Change) × L.does leaf.now (S.state store.old).contents F }
     requires stands { (u : Tm) × ((S.state store.old).contents.term t ≡ some u) }
-    ensures within { Within f.new }
-    ensures same { Same f.old f.new }
-    ensures top_name { f.new.top.ghost_name ≡ f.old.top.ghost_name }
-    ensures words_name { f.new.words.ghost_name ≡ f.old.words.ghost_name }
-    ensures moves { (F : Change) (d : ℕ) (x : Point) → L.does leaf.now entries.now (S.state store.old).contents F → At d (S.state store.old).contents (held f.old) (Turn.Down t depth) x → d < 2 ^ 63 → Moves F d (capacity f.old) (S.state store.old) (S.state store.new) (held f.new) x result }
+    ensures capacity { stack.new.capacity ≡ stack.old.capacity }
+    ensures moves { (F : Change) (d : ℕ) (x : Point) → L.does leaf.now (S.state store.old).contents F → At d (S.state store.old).contents stack.old.held (Turn.Down t depth) x → d < 2 ^ 63 → Moves F d stack.old.capacity (S.state store.old) (S.state store.new) stack.new.held x result }
 {
-    let Some(view) = store.view_term(t) else {
-        return Err(NoRoom);
-    };
-    match view {
+    match store.view_term(t).ok_or(NoRoom)? {
         TermView::Free(_, _) | TermView::Bound(_) | TermView::Constant(_, _) => at_leaf(
-            store, leaf, entries, f, t, depth,
+            store, leaf, stack, t, depth,
         ),
         TermView::Apply(g, x) => {
-            if f.push_all(&[x, Wait::Function as u64]) {
-                Ok(Turn::Down(g, depth))
-            } else {
-                Err(NoRoom)
-            }
+            stack.push_all(&[x, Wait::Function as u64])?;
+            Ok(Turn::Down(g, depth))
         }
-        TermView::Lambda(a, body) => into_lambda(store, leaf, entries, f, a, body, depth),
+        TermView::Lambda(a, body) => into_lambda(store, leaf, stack, a, body, depth),
     }
 }
 
 // Up with what was built, to what waits for it.
-fn up<S: Store>(store: &mut S, f: &mut Frame<'_>, n: u64, depth: u64) -> Result<Turn, NoRoom>
-    requires within { Within f.old }
-    ensures within { Within f.new }
-    ensures same { Same f.old f.new }
-    ensures top_name { f.new.top.ghost_name ≡ f.old.top.ghost_name }
-    ensures words_name { f.new.words.ghost_name ≡ f.old.words.ghost_name }
-    ensures moves { (F : Change) (d : ℕ) (x : Point) → At d (S.state store.old).contents (held f.old) (Turn.Up n depth) x → Moves F d (capacity f.old) (S.state store.old) (S.state store.new) (held f.new) x result }
+fn up<S: Store>(store: &mut S, stack: &mut Stack<'_>, n: u64, depth: u64) -> Result<Turn, NoRoom>
+    ensures capacity { stack.new.capacity ≡ stack.old.capacity }
+    ensures moves { (F : Change) (d : ℕ) (x : Point) → At d (S.state store.old).contents stack.old.held (Turn.Up n depth) x → Moves F d stack.old.capacity (S.state store.old) (S.state store.new) stack.new.held x result }
 {
-    let Some((k, kept)) = f.pop_pair() else {
+    let Some((k, kept)) = stack.pop_pair() else {
         return Ok(Turn::End(n));
     };
-    match wait(k) {
+    match Wait::from(k) {
         Wait::Function => {
-            if f.push_all(&[n, Wait::Argument as u64]) {
-                Ok(Turn::Down(kept, depth))
-            } else {
-                Err(NoRoom)
-            }
+            stack.push_all(&[n, Wait::Argument as u64])?;
+            Ok(Turn::Down(kept, depth))
         }
-        Wait::Argument => match store.apply(kept, n) {
-            Some(m) => Ok(Turn::Up(m, depth)),
-            None => Err(NoRoom),
-        },
-        Wait::Body => match store.lambda(kept, n) {
-            Some(m) => Ok(Turn::Up(m, depth.saturating_sub(1))),
-            None => Err(NoRoom),
-        },
+        Wait::Argument => Ok(Turn::Up(store.apply(kept, n).ok_or(NoRoom)?, depth)),
+        Wait::Body => Ok(Turn::Up(
+            store.lambda(kept, n).ok_or(NoRoom)?,
+            depth.saturating_sub(1),
+        )),
     }
 }
 
-// One move, unless it is the end.
-fn step<S: Store, L: Leaf<S>>(
-    store: &mut S,
-    leaf: &L,
-    entries: &[u64],
-    f: &mut Frame<'_>,
-    turn: Turn,
-) -> Result<Turn, NoRoom>
-    requires within { Within f.old }
-    requires does { (F : Change) × L.does leaf.now entries.now (S.state store.old).contents F }
-    requires at { (d : ℕ) × (x : Point) × At d (S.state store.old).contents (held f.old) turn x }
-    ensures within { Within f.new }
-    ensures same { Same f.old f.new }
-    ensures top_name { f.new.top.ghost_name ≡ f.old.top.ghost_name }
-    ensures words_name { f.new.words.ghost_name ≡ f.old.words.ghost_name }
-    ensures moves { (F : Change) (d : ℕ) (x : Point) → L.does leaf.now entries.now (S.state store.old).contents F → At d (S.state store.old).contents (held f.old) turn x → d < 2 ^ 63 → 0 < moves x → Moves F d (capacity f.old) (S.state store.old) (S.state store.new) (held f.new) x result }
-{
-    match turn {
-        Turn::Down(t, depth) => down(store, leaf, entries, f, t, depth),
-        Turn::Up(n, depth) => up(store, f, n, depth),
-        Turn::End(n) => Ok(Turn::End(n)),
-    }
-}
-
-// The loop: the term `t`, under `depth` λs, with the change that `leaf` does with these entries.
+// The loop: the term `t`, under `depth` λs, with the change that `leaf` does.
 pub fn rebuild<S: Store, L: Leaf<S>>(
     store: &mut S,
     leaf: &L,
-    entries: &[u64],
     words: &mut [u64],
-    top: &mut usize,
     t: u64,
     depth: u64,
 ) -> Result<u64, NoRoom>
-    requires stack { top.old ≤ length words.old }
-    requires does { (F : Change) × L.does leaf.now entries.now (S.state store.old).contents F }
+    requires does { (F : Change) × L.does leaf.now (S.state store.old).contents F }
     requires stands { (u : Tm) × ((S.state store.old).contents.term t ≡ some u) }
     requires shallow { depth < 2 ^ 63 }
-    ensures stack { Restores words.old top.old words.new top.new }
-    ensures made { (F : Change) (u : Tm) → L.does leaf.now entries.now (S.state store.old).contents F → (S.state store.old).contents.term t ≡ some u → Rebuilds (length words.old - top.old) (nodes_tm u) (nodes_tm (rebuilt F depth u)) (S.state store.old) (S.state store.new) (λ d n. d.term n ≡ some (rebuilt F depth u)) result }
+    ensures { (F : Change) (u : Tm) → L.does leaf.now (S.state store.old).contents F → (S.state store.old).contents.term t ≡ some u → Rebuilds (length words.old) (nodes_tm u) (nodes_tm (rebuilt F depth u)) (S.state store.old) (S.state store.new) (λ d n. d.term n ≡ some (rebuilt F depth u)) result }
 {
-    let mut f = Frame::new(words, top);
+    let mut stack = Stack::new(words);
     let mut turn = Turn::Down(t, depth);
     loop {
-        if let Turn::End(n) = turn {
-            return Ok(n);
-        }
-        turn = step(store, leaf, entries, &mut f, turn)?;
+        turn = match turn {
+            Turn::Down(t, depth) => down(store, leaf, &mut stack, t, depth)?,
+            Turn::Up(n, depth) => up(store, &mut stack, n, depth)?,
+            Turn::End(n) => return Ok(n),
+        };
     }
 }

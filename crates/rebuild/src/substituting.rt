@@ -1,19 +1,18 @@
 // Terms for free variables, all at once.
-ghost use Rattle.std.specs.Prelude.{◌≡◌, ℕ, ◌-◌, ◌≤◌, length};
+ghost use Rattle.std.specs.Prelude.{◌≡◌, length};
 ghost use Rattle.std.proofs.Math.Option.{some};
 ghost use Rattle.hol.specs.Base.{Word};
 ghost use Rattle.hol.specs.Syntax.{Ty, Tm, Subst, subst_tm};
 ghost use Rattle.store.specs.Measures.{nodes_tm};
 ghost use Rattle.store.specs.State.{Stays};
-ghost use Rattle.stack.specs.Frames.{Restores};
 ghost use Rattle.rebuild_types.specs.Rebuilds.{Rebuilds};
 ghost use Rattle.rebuild.specs.Instances.{Entries, Finds, Substitutes};
 ghost use Rattle.rebuild.specs.Kept.{substitutes_kept};
 
-use super::closing::same_variable;
 use super::leaf::Leaf;
 use super::rebuild;
 use lent::NoRoom;
+use names::variables::same_variable;
 use store::Store;
 use store::view::TermView;
 
@@ -34,42 +33,23 @@ fn find<S: Store>(store: &mut S, entries: &[u64], x: u64, a: u64) -> Option<u64>
 
 // The entries' terms for their variables.
 #[derive(Clone, Copy)]
-pub struct Substituting;
+pub struct Substituting<'e> {
+    entries: &'e [u64],
+}
 
-impl<S: Store> Leaf<S> for Substituting {
-    ghost does = { λ l ws c F. Substitutes c ws F };
+impl<S: Store> Leaf<S> for Substituting<'_> {
+    ghost does = { λ l c F. Substitutes c l.entries.now F };
 
-    ghost stays = { λ l ws c d F k o. substitutes_kept k o };
+    ghost stays = { λ l c d F k o. substitutes_kept k o };
 
-    fn leaf(
-        &self,
-        store: &mut S,
-        entries: &[u64],
-        _words: &mut [u64],
-        _top: &mut usize,
-        t: u64,
-        _depth: u64,
-    ) -> Result<u64, NoRoom> {
-        let Some(view) = store.view_term(t) else {
-            return Ok(t);
-        };
-        match view {
-            TermView::Free(x, a) => match find(store, entries, x, a) {
-                Some(n) => Ok(n),
-                None => Ok(t),
-            },
+    fn leaf(&self, store: &mut S, _words: &mut [u64], t: u64, _depth: u64) -> Result<u64, NoRoom> {
+        match store.view_term(t) {
+            Some(TermView::Free(x, a)) => Ok(find(store, self.entries, x, a).unwrap_or(t)),
             _ => Ok(t),
         }
     }
 
-    fn typ(
-        &self,
-        _store: &mut S,
-        _entries: &[u64],
-        _words: &mut [u64],
-        _top: &mut usize,
-        a: u64,
-    ) -> Result<u64, NoRoom> {
+    fn typ(&self, _store: &mut S, _words: &mut [u64], a: u64) -> Result<u64, NoRoom> {
         Ok(a)
     }
 }
@@ -78,15 +58,12 @@ impl<S: Store> Leaf<S> for Substituting {
 pub fn subst<S: Store>(
     store: &mut S,
     words: &mut [u64],
-    top: &mut usize,
     entries: &[u64],
     t: u64,
 ) -> Result<u64, NoRoom>
-    requires stack { top.old ≤ length words.old }
     requires entries { (es : Subst) × Entries (S.state store.old).contents entries.now es }
     requires stands { (u : Tm) × ((S.state store.old).contents.term t ≡ some u) }
-    ensures stack { Restores words.old top.old words.new top.new }
-    ensures made { (es : Subst) (u : Tm) → Entries (S.state store.old).contents entries.now es → (S.state store.old).contents.term t ≡ some u → Rebuilds (length words.old - top.old) (nodes_tm u) (nodes_tm (subst_tm es u)) (S.state store.old) (S.state store.new) (λ d n. d.term n ≡ some (subst_tm es u)) result }
+    ensures { (es : Subst) (u : Tm) → Entries (S.state store.old).contents entries.now es → (S.state store.old).contents.term t ≡ some u → Rebuilds (length words.old) (nodes_tm u) (nodes_tm (subst_tm es u)) (S.state store.old) (S.state store.new) (λ d n. d.term n ≡ some (subst_tm es u)) result }
 {
-    rebuild(store, &Substituting, entries, words, top, t, 0)
+    rebuild(store, &Substituting { entries }, words, t, 0)
 }

@@ -1,5 +1,3 @@
--- tests of a store
-pub mod Tests
 -- looking a name up among entries
 pub mod Lookup
 -- what the stack's words hold

@@ -5,8 +5,8 @@ use Rattle.hol.specs.Base.{Word, same_word}
 use Rattle.hol.specs.Syntax.{Ty, TySubst, find_ty}
 use Rattle.store.specs.State.{Contents, Keeps, State, Stays}
 use Rattle.rebuild_types.specs.Entries.{TyEntries, nothing, entry, Finds}
-use Rattle.store.proofs.Growth.{stays_same, stays_on}
-use Rattle.rebuild_types.proofs.Tests.{word_test}
+use Rattle.store.proofs.Growth.{stays_on}
+use Rattle.names.proofs.Compared.{words_compared}
 
 -- entries stay
 pub entries-kept : {c d : Contents} {ws : List ℕ} {es : TySubst} → Keeps c d → TyEntries c ws es → TyEntries d ws es
@@ -18,9 +18,6 @@ pub record Seeking (s t : State) (words rest : List ℕ) (name : ℕ) : Type 0 w
   pub stays : Stays s t
   pub same : (es : TySubst) (w : Word) → TyEntries s.contents words es → s.contents.word name ≡ some w
       → (fs : TySubst) × TyEntries s.contents rest fs × (find_ty fs w ≡ find_ty es w)
-
-pub start : (s : State) (words : List ℕ) (name : ℕ) → Seeking s s words words name
-start s words name = record { stays = stays_same; same = λ es w e h. (es, e, refl) }
 
 -- the words behind the first two
 abbrev pub tail : List ℕ → List ℕ
@@ -45,7 +42,7 @@ module _ (s t u : State) (words rest : List ℕ) (name : ℕ) (r : Bool) (h : 2 
   tested : (w v : Word) → s.contents.word name ≡ some w → s.contents.word (get_or rest 0 0) ≡ some v → same_word w v ≡ r
   tested w v e f =
       let q = k.stays.grows.keeps.word in
-      word_test r (t.contents.word name) (t.contents.word (get_or rest 0 0)) sound complete w v (q name w e) (q (get_or rest 0 0) v f)
+      sym (words_compared (q name w e) (q (get_or rest 0 0) v f) sound complete)
 
   -- another name: go on
   pub next : r ≡ false → Stays t u → Seeking s u words (tail rest) name

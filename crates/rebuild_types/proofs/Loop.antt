@@ -1,21 +1,19 @@
 -- The loop of the machine: what every turn keeps, and the number of moves to come as a function of the words.
-use Rattle.std.proofs.Common.{◌≡◌, ℕ, ◌+◌, ◌-◌, ◌*◌, ◌<◌, ◌≤◌, true, cond, eqb, ◌⊎◌, List, [], ◌∷◌, length, is_err, Ok, Err, Result, sym, refl, ap, ◌∙◌, subst, inl, inr, true≢false, arith}
+use Rattle.std.proofs.Common.{◌≡◌, ℕ, ◌+◌, ◌*◌, ◌<◌, ◌≤◌, cond, eqb, ◌⊎◌, List, [], ◌∷◌, refl, ap, ◌∙◌, subst, inl, inr, arith}
 use Rattle.hol.specs.Base.{option}
 use Rattle.hol.specs.Syntax.{TySubst}
 use Rattle.store.specs.Measures.{nodes_ty, nodes_tys}
 use Rattle.store.specs.State.{Contents, State, Grows}
 use Rattle.store.specs.Builds.{Made}
-use Rattle.stack.specs.Frames.{held, capacity, Within, Same}
-use Rattle.stack.specs.declared.frame.Frame.{Frame}
-use Rattle.lent.specs.declared.NoRoom.{NoRoom}
+use Rattle.lent.specs.Piles.{Pile}
 use Rattle.rebuild_types.specs.Entries.{TyEntries}
-use Rattle.rebuild_types.specs.Machine.{Sort, one, many, Of, nodes, substituted, item, Item, nodes_item, Is, Path, root, args_of, head_of, tail_of, pending, code, Holds, holds_root, holds_args, holds_head, holds_tail, Point, down, outcome, spent, weight, moves, At, at_type, at_types, at_up, at_end, Moved, Stuck}
+use Rattle.rebuild_types.specs.Codes.{code}
+use Rattle.rebuild_types.specs.Machine.{Sort, one, many, Of, nodes, substituted, item, Item, nodes_item, Is, Path, root, pending, Holds, holds_root, holds_args, holds_head, holds_tail, Point, down, outcome, spent, weight, moves, At, at_type, at_types, at_up, at_end, Moved, Stuck}
 use Rattle.rebuild_types.specs.declared.turn.Turn.{Turn}
 use Rattle.rebuild_types.specs.declared.turn.Turn.TheVariants.{DownType, DownTypes, Up, End}
 use Rattle.rebuild_types.specs.declared.turn.Wait.TheVariants.{Head}
 use Rattle.store.proofs.Growth.{grows_on, grows-more, grows_same}
 use Rattle.rebuild_types.proofs.Lookup.{entries-kept}
-use Rattle.stack.proofs.Lent.{same_trans, same-capacity}
 
 -- THE MEASURE: moves to come, for the words and for the turn
 abbrev pub word-moves : Contents → List ℕ → ℕ
@@ -50,22 +48,6 @@ moves_are {c} (at_types {n = n} {bs = bs} e h) =
 moves_are (at_up e h) = word_moves_are h
 moves_are (at_end e) = refl
 
--- the end has no move
-pub still : {c : Contents} {ws : List ℕ} {n : ℕ} {x : Point} → At c ws (End n) x → 0 < moves x → ⊥
-still (at_end e) l = omega arith
-
-pending_some : {s : Sort} (p : Path s) → 0 < pending p
-pending_some root = omega arith
-pending_some (args_of w p) = omega arith
-pending_some (head_of bs p) = omega arith
-pending_some (tail_of a p) = omega arith
-
-pub going : {c : Contents} {ws : List ℕ} {turn : Turn} {x : Point} → At c ws turn x → ((n : ℕ) → turn ≡ End n → ⊥) → 0 < moves x
-going (at_type e h) q = omega arith
-going (at_types e h) q = omega arith
-going (at_up {p = p} e h) q = pending_some p
-going (at_end {n = n} e) q = absurd (q n refl)
-
 -- WHAT EVERY TURN KEEPS. From the state s and the point x the loop came to the state t, the words ws and this turn.
 pub record Way (es : TySubst) (s : State) (x : Point) (entries : List ℕ) (t : State) (ws : List ℕ) (turn : Turn) : Type 0 where
   pub to : Point
@@ -74,10 +56,6 @@ pub record Way (es : TySubst) (s : State) (x : Point) (entries : List ℕ) (t : 
   pub outcome : outcome es to ≡ outcome es x
   pub grows : Grows (spent to) s t
   pub weight : weight to ≤ weight x
-
-pub set_out : (es : TySubst) (s : State) {k : Sort} (y : Of k) (entries ws : List ℕ) (turn : Turn) → ws ≡ [] → TyEntries s.contents entries es
-    → At s.contents [] turn (down root y) → Way es s (down root y) entries s ws turn
-set_out es s y entries ws turn q e at = record { to = down root y; at = rw q at; entered = e; outcome = refl; grows = grows_same; weight = omega arith }
 
 pub goes_on : {es : TySubst} {s t u : State} {x : Point} {entries ws vs : List ℕ} {turn next : Turn} (w : Way es s x entries t ws turn)
     → Moved es t u vs w.to next → Way es s x entries u vs next
@@ -111,52 +89,47 @@ arrives {es} {s} {t} {ws = ws} k y {n} w = go w.at w.outcome w.grows
         let l = ap nodes_item q in
         record { grows = grows-more (omega arith) g; stands = subst (λ (i : Item). Is i t.contents n) q e }
 
--- refused on the way
-pub refused : {es : TySubst} {s t : State} {entries ws : List ℕ} (room capacity : ℕ) (k : Sort) (y : Of k) {turn : Turn}
-    (w : Way es s (down root y) entries t ws turn) → capacity ≡ room → Stuck es capacity t w.to
-    → (room < 4 * nodes k y) ⊎ (s.left < nodes k (substituted es k y))
-refused {es} room capacity k y w q (inl l) = let m = w.weight in inl (omega arith)
-refused {es} room capacity k y w q (inr l) =
-    let g = w.grows.cost in
-    let b = nodes_of k (substituted es k y) in
-    let i = ap nodes_item w.outcome in
-    inr (omega arith)
-
--- the room of a frame that was made over these words
-pub room : {f g : Frame} {ws : List ℕ} {t : ℕ} → f.base ≡ t → f.words.now ≡ ws → Same f g → capacity g ≡ length ws - t
-room {f} {g} {ws} {t} b w s = same-capacity s ∙ rw (b, w) refl
-
--- an answer that is refused
-pub an_err : {X : Type 0} (r : Result X NoRoom) → is_err r ≡ true → (e : NoRoom) × (r ≡ Err e)
-an_err (Ok x) q = absurd (true≢false (sym q))
-an_err (Err e) q = (e, refl)
-
--- THE INVARIANT, for a loop that began with the frame f and is at the frame h
-pub record Running (s : State) (entries : List ℕ) (start : Turn) (f : Frame) (t : State) (h : Frame) (turn : Turn) : Type 0 where
-  pub within : Within h
-  pub same : Same f h
-  pub top_name : h.top.ghost_name ≡ f.top.ghost_name
-  pub words_name : h.words.ghost_name ≡ f.words.ghost_name
+-- THE INVARIANT, for a loop that began with the stack p and is at the stack q
+pub record Running (s : State) (entries : List ℕ) (start : Turn) (p : Pile) (t : State) (q : Pile) (turn : Turn) : Type 0 where
+  pub capacity : q.capacity ≡ p.capacity
   pub ways : (es : TySubst) (k : Sort) (y : Of k) → TyEntries s.contents entries es → At s.contents [] start (down root y)
-      → Way es s (down root y) entries t (held h) turn
+      → Way es s (down root y) entries t q.held turn
 
-module _ {s t u : State} {entries : List ℕ} {start turn next : Turn} {f : Frame} (g h : Frame) (k : Running s entries start f t g turn)
-    (going_on : (n : ℕ) → turn ≡ End n → ⊥)
-    (moved : (es : TySubst) (x : Point) → TyEntries t.contents entries es → At t.contents (held g) turn x → 0 < moves x
-    → Moved es t u (held h) x next) where
-  one-turn : {es : TySubst} {x : Point} (w : Way es s x entries t (held g) turn) → Moved es t u (held h) w.to next
-  one-turn {es} w = moved es w.to w.entered w.at (going w.at going_on)
+pub set_out : (s : State) (entries : List ℕ) (start : Turn) (p : Pile) → p.held ≡ [] → Running s entries start p s p start
+set_out s entries start p h = record {
+  capacity = refl;
+  ways = λ es k y e at. record { to = down root y; at = rw h at; entered = e; outcome = refl; grows = grows_same; weight = omega arith };
+}
 
-  pub again : Within h → Same g h → h.top.ghost_name ≡ g.top.ghost_name → h.words.ghost_name ≡ g.words.ghost_name
-      → Running s entries start f u h next
-  again w q a b = record {
-    within = w;
-    same = same_trans k.same q;
-    top_name = a ∙ k.top_name;
-    words_name = b ∙ k.words_name;
-    ways = λ es o y e at. let v = k.ways es o y e at in goes_on v (one-turn v);
-  }
+-- one turn, which is `now`
+module _ {s t : State} {entries : List ℕ} {start turn now : Turn} {p : Pile} (q : Pile) (k : Running s entries start p t q turn)
+    (is : turn ≡ now) where
+  module _ {u : State} {next : Turn} (r : Pile)
+      (moved : (es : TySubst) (x : Point) → TyEntries t.contents entries es → At t.contents q.held now x → Moved es t u r.held x next) where
+    one-turn : {es : TySubst} {x : Point} (w : Way es s x entries t q.held turn) → Moved es t u r.held w.to next
+    one-turn {es} w = moved es w.to w.entered (rw is at w.at)
 
-  pub less : (es : TySubst) (o : Sort) (y : Of o) → TyEntries s.contents entries es → At s.contents [] start (down root y)
-      → turn-moves u.contents (held h) next < turn-moves t.contents (held g) turn
-  less es o y e at = let v = k.ways es o y e at in falls v (one-turn v)
+    pub again : r.capacity ≡ q.capacity → Running s entries start p u r next
+    again c = record {
+      capacity = c ∙ k.capacity;
+      ways = λ es o y e at. let v = k.ways es o y e at in goes_on v (one-turn v);
+    }
+
+    pub less : (es : TySubst) (o : Sort) (y : Of o) → TyEntries s.contents entries es → At s.contents [] start (down root y)
+        → turn-moves u.contents r.held next < turn-moves t.contents q.held turn
+    less es o y e at = let v = k.ways es o y e at in falls v (one-turn v)
+
+  -- refused on the way
+  pub refused : ((es : TySubst) (x : Point) → TyEntries t.contents entries es → At t.contents q.held now x → Stuck es q.capacity t x)
+      → (es : TySubst) (o : Sort) (y : Of o) → TyEntries s.contents entries es → At s.contents [] start (down root y)
+      → (p.capacity < 4 * nodes o y) ⊎ (s.left < nodes o (substituted es o y))
+  refused stuck es o y e at =
+      let v = k.ways es o y e at in
+      elim (stuck es v.to v.entered (rw is at v.at)) [
+        | inl l ↦ let m = v.weight in let c = k.capacity in inl (omega arith)
+        | inr l ↦
+            let g = v.grows.cost in
+            let b = nodes_of o (substituted es o y) in
+            let i = ap nodes_item v.outcome in
+            inr (omega arith)
+      ]

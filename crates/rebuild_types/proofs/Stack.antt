@@ -4,7 +4,8 @@ use mathlib.Core.Option.{some}
 use Rattle.hol.specs.Base.{Word}
 use Rattle.hol.specs.Syntax.{Ty, tyapp, Tys, tcons, TySubst, subst_tys}
 use Rattle.store.specs.State.{Contents, Keeps}
-use Rattle.rebuild_types.specs.Machine.{Sort, one, many, Of, nodes, item, nodes_item, Is, Path, root, args_of, head_of, tail_of, plug, finished, waiting, code, Holds, holds_root, holds_args, holds_head, holds_tail}
+use Rattle.rebuild_types.specs.Codes.{code}
+use Rattle.rebuild_types.specs.Machine.{Sort, one, many, Of, nodes, nodes_item, Path, root, args_of, head_of, tail_of, plug, finished, waiting, Holds, holds_root, holds_args, holds_head, holds_tail}
 use Rattle.rebuild_types.specs.declared.turn.Wait.{Wait}
 use Rattle.rebuild_types.specs.declared.turn.Wait.TheVariants.{Arguments, Head, Tail}
 
@@ -14,10 +15,6 @@ holds_kept k holds_root = holds_root
 holds_kept k (holds_args {n = n} {w = w} e f h) = holds_args e (k.word n w f) (holds_kept k h)
 holds_kept k (holds_head {n = n} {bs = bs} e f h) = holds_head e (k.types n bs f) (holds_kept k h)
 holds_kept k (holds_tail {n = n} {a = a} e f h) = holds_tail e (k.typ n a f) (holds_kept k h)
-
-pub is_kept : {c d : Contents} (s : Sort) (x : Of s) (n : ℕ) → Keeps c d → Is (item s x) c n → Is (item s x) d n
-is_kept one x n k e = k.typ n x e
-is_kept many x n k e = k.types n x e
 
 -- two words for each step of a path
 pub held-length : {c : Contents} {s : Sort} {ws : List ℕ} {p : Path s} → Holds c s ws p → length ws ≤ 2 * waiting p

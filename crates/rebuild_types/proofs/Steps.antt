@@ -1,5 +1,5 @@
 -- One lemma for each move of the machine that builds types anew.
-use Rattle.std.proofs.Common.{◌≡◌, ℕ, ◌+◌, ◌<◌, ◌≤◌, List, ◌∷◌, length, Some, None, sym, refl, ap, ◌∙◌, inl, inr, arith}
+use Rattle.std.proofs.Common.{◌≡◌, ℕ, ◌+◌, ◌<◌, ◌≤◌, List, ◌∷◌, length, Option, Some, None, unwrap_or, sym, refl, ap, ◌∙◌, inl, inr, arith}
 use mathlib.Core.Option.{some, none}
 use Rattle.hol.specs.Base.{Word}
 use Rattle.hol.specs.Syntax.{Ty, tyvar, tyapp, Tys, tnil, tcons, TySubst, find_ty, subst_ty, subst_tys}
@@ -8,7 +8,8 @@ use Rattle.store.specs.State.{Contents, State, Grows, Stays}
 use Rattle.store.specs.Builds.{Made, Full, IsTyapp, IsTypes}
 use Rattle.store.specs.Views.{ViewVariable, ViewNamed, ViewTypes}
 use Rattle.rebuild_types.specs.Entries.{Finds}
-use Rattle.rebuild_types.specs.Machine.{Sort, Of, item, nodes_item, Is, Path, args_of, head_of, tail_of, plug, code, Holds, holds_root, holds_args, holds_head, holds_tail, Point, down, up, end, outcome, spent, At, at_type, at_types, at_up, at_end, Moved, Stuck}
+use Rattle.rebuild_types.specs.Codes.{code}
+use Rattle.rebuild_types.specs.Machine.{Sort, Of, item, nodes_item, Is, Path, args_of, head_of, tail_of, plug, Holds, holds_root, holds_args, holds_head, holds_tail, Point, down, up, end, outcome, spent, At, at_type, at_types, at_up, at_end, Moved, Stuck}
 use Rattle.rebuild_types.specs.declared.turn.Turn.TheVariants.{DownType, DownTypes, Up, End}
 use Rattle.rebuild_types.specs.declared.turn.Wait.{Wait}
 use Rattle.rebuild_types.specs.declared.turn.Wait.TheVariants.{Arguments, Head, Tail}
@@ -28,13 +29,6 @@ one-node (tyvar w) = omega arith
 one-node (tyapp w as₁) = omega arith
 
 module _ (es : TySubst) (s t : State) (ws : List ℕ) (n : ℕ) where
-  -- the number stands for a type, or a list
-  pub no_type : {x : Point} → At s.contents ws (DownType n) x → ((a : Ty) → s.contents.typ n ≡ some a → ⊥) → ⊥
-  no_type (at_type {a = a} e h) v = v a e
-
-  pub no_list : {x : Point} → At s.contents ws (DownTypes n) x → ((bs : Tys) → s.contents.types n ≡ some bs → ⊥) → ⊥
-  no_list (at_types {bs = bs} e h) v = v bs e
-
   -- a type that is done at once, with the number m
   done_type : (m : ℕ) {x : Point} → At s.contents ws (DownType n) x → Grows 0 s t
       → ((a : Ty) → s.contents.typ n ≡ some a → s.contents.typ m ≡ some (subst_ty es a)) → Moved es s t ws x (Up m)
@@ -49,19 +43,14 @@ module _ (es : TySubst) (s t : State) (ws : List ℕ) (n : ℕ) where
     moves = omega arith;
   }
 
-  -- a variable that an entry is for
-  pub found_variable : (k m : ℕ) {x : Point} → At s.contents ws (DownType n) x → Stays s t
+  -- a variable: what an entry has for it, or itself where no entry is for it
+  pub variable : (k : ℕ) (o : Option ℕ) {x : Point} → At s.contents ws (DownType n) x → Stays s t
       → ((a : Ty) → s.contents.typ n ≡ some a → ViewVariable s.contents k a)
-      → ((w : Word) → s.contents.word k ≡ some w → Finds s.contents (find_ty es w) (Some m)) → Moved es s t ws x (Up m)
-  found_variable k m at g v q =
+      → ((w : Word) → s.contents.word k ≡ some w → Finds s.contents (find_ty es w) o) → Moved es s t ws x (Up (unwrap_or o n))
+  variable k (Some m) at g v q =
       done_type m at g.grows
       (λ a e. let w = v a e in rw w.is (found_type es s.contents w.name m (q w.name w.name_is)))
-
-  -- a variable that no entry is for
-  pub kept_variable : (k : ℕ) {x : Point} → At s.contents ws (DownType n) x → Stays s t
-      → ((a : Ty) → s.contents.typ n ≡ some a → ViewVariable s.contents k a)
-      → ((w : Word) → s.contents.word k ≡ some w → Finds s.contents (find_ty es w) None) → Moved es s t ws x (Up n)
-  kept_variable k at g v q =
+  variable k None at g v q =
       done_type n at g.grows
       (λ a e. let w = v a e in e ∙ ap some (w.is ∙ (sym (kept_type es w.name (q w.name w.name_is)) ∙ ap (subst_ty es) (sym w.is))))
 

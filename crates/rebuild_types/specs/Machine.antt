@@ -9,7 +9,7 @@ use Rattle.lent.specs.Answers.{Answers}
 use Rattle.lent.specs.declared.NoRoom.{NoRoom}
 use Rattle.rebuild_types.specs.declared.turn.Turn.{Turn}
 use Rattle.rebuild_types.specs.declared.turn.Turn.TheVariants.{DownType, DownTypes, Up, End}
-use Rattle.rebuild_types.specs.declared.turn.Wait.{Wait}
+use Rattle.rebuild_types.specs.Codes.{code}
 use Rattle.rebuild_types.specs.declared.turn.Wait.TheVariants.{Arguments, Head, Tail}
 
 -- a type, or a list of types
@@ -89,11 +89,6 @@ pending (head_of bs p) = 3 + (4 * nodes_tys bs + pending p)
 pending (tail_of a p) = 1 + pending p
 
 -- The words of the stack, two for each step of a path: what waits, and the number that it keeps.
-abbrev pub code : Wait → ℕ
-code Arguments = 0
-code Head = 1
-code Tail = 2
-
 pub data Holds (c : Contents) : (s : Sort) → List ℕ → Path s → Type 0 where
   holds_root : {s : Sort} → Holds c s [] (root {s = s})
   holds_args : {ws vs : List ℕ} {n : ℕ} {w : Word} {p : Path one} → ws ≡ code Arguments ∷ n ∷ vs → c.word n ≡ some w

@@ -1,22 +1,20 @@
 // Types built anew over any store: types for type variables, all at once.
 #![tactic(auto)]
 
-ghost use Rattle.std.specs.Prelude.{◌≡◌, ◌-◌, ◌*◌, ◌<◌, ◌≤◌, [], length};
+ghost use Rattle.std.specs.Prelude.{◌≡◌, [], length};
 ghost use Rattle.std.proofs.Math.Option.{some};
 ghost use Rattle.hol.specs.Base.{Word};
 ghost use Rattle.hol.specs.Syntax.{Ty, Tys, TySubst, find_ty, subst_ty, subst_tys};
 ghost use Rattle.store.specs.Measures.{nodes_ty, nodes_tys};
 ghost use Rattle.store.specs.State.{Stays};
-ghost use Rattle.stack.specs.Frames.{held, capacity, Within, Same, Restores};
 ghost use Rattle.rebuild_types.specs.Entries.{TyEntries, Finds};
 ghost use Rattle.rebuild_types.specs.Rebuilds.{Rebuilds};
-ghost use Rattle.rebuild_types.specs.Machine.{Sort, Of, nodes, substituted, item, Is, root, Point, down, moves, At, Moves, code};
-ghost use Rattle.rebuild_types.specs.declared.turn.Wait.{Wait as Waits};
+ghost use Rattle.rebuild_types.specs.Machine.{Sort, Of, nodes, substituted, item, Is, root, Point, down, moves, At, Moves};
 
 pub mod turn;
 
 use lent::NoRoom;
-use stack::frame::Frame;
+use lent::stack::Stack;
 use store::Store;
 use store::view::{ListView, TypeView};
 use turn::{Turn, Wait};
@@ -36,125 +34,54 @@ fn find<S: Store>(store: &mut S, entries: &[u64], name: u64) -> Option<u64>
     None
 }
 
-// What waits, by the word that stands for it on the stack.
-fn wait(k: u64) -> Wait
-    ensures { (w : Waits) → k ≡ code w → result ≡ w }
-{
-    if k == Wait::Arguments as u64 {
-        Wait::Arguments
-    } else if k == Wait::Head as u64 {
-        Wait::Head
-    } else {
-        Wait::Tail
-    }
-}
-
 // Down into a type: a variable is looked up, a named type waits for its arguments.
 fn down_type<S: Store>(
     store: &mut S,
-    f: &mut Frame<'_>,
+    stack: &mut Stack<'_>,
     entries: &[u64],
     a: u64,
 ) -> Result<Turn, NoRoom>
-    requires { Within f.old }
-    ensures within { Within f.new }
-    ensures same { Same f.old f.new }
-    ensures top_name { f.new.top.ghost_name ≡ f.old.top.ghost_name }
-    ensures words_name { f.new.words.ghost_name ≡ f.old.words.ghost_name }
-    ensures moves { (es : TySubst) (x : Point) → TyEntries (S.state store.old).contents entries.now es → At (S.state store.old).contents (held f.old) (Turn.DownType a) x → Moves es (capacity f.old) (S.state store.old) (S.state store.new) (held f.new) x result }
+    ensures capacity { stack.new.capacity ≡ stack.old.capacity }
+    ensures moves { (es : TySubst) (x : Point) → TyEntries (S.state store.old).contents entries.now es → At (S.state store.old).contents stack.old.held (Turn.DownType a) x → Moves es stack.old.capacity (S.state store.old) (S.state store.new) stack.new.held x result }
 {
-    let Some(view) = store.view_type(a) else {
-        return Err(NoRoom);
-    };
-    match view {
-        TypeView::Variable(name) => match find(store, entries, name) {
-            Some(b) => Ok(Turn::Up(b)),
-            None => Ok(Turn::Up(a)),
-        },
+    match store.view_type(a).ok_or(NoRoom)? {
+        TypeView::Variable(name) => Ok(Turn::Up(find(store, entries, name).unwrap_or(a))),
         TypeView::Named(name, args) => {
-            if f.push_all(&[name, Wait::Arguments as u64]) {
-                Ok(Turn::DownTypes(args))
-            } else {
-                Err(NoRoom)
-            }
+            stack.push_all(&[name, Wait::Arguments as u64])?;
+            Ok(Turn::DownTypes(args))
         }
     }
 }
 
 // Down into a list of types: the empty list is done, of another the rest waits for the first.
-fn down_types<S: Store>(store: &mut S, f: &mut Frame<'_>, list: u64) -> Result<Turn, NoRoom>
-    requires { Within f.old }
-    ensures within { Within f.new }
-    ensures same { Same f.old f.new }
-    ensures top_name { f.new.top.ghost_name ≡ f.old.top.ghost_name }
-    ensures words_name { f.new.words.ghost_name ≡ f.old.words.ghost_name }
-    ensures moves { (es : TySubst) (x : Point) → At (S.state store.old).contents (held f.old) (Turn.DownTypes list) x → Moves es (capacity f.old) (S.state store.old) (S.state store.new) (held f.new) x result }
+fn down_types<S: Store>(store: &mut S, stack: &mut Stack<'_>, list: u64) -> Result<Turn, NoRoom>
+    ensures capacity { stack.new.capacity ≡ stack.old.capacity }
+    ensures moves { (es : TySubst) (x : Point) → At (S.state store.old).contents stack.old.held (Turn.DownTypes list) x → Moves es stack.old.capacity (S.state store.old) (S.state store.new) stack.new.held x result }
 {
-    let Some(view) = store.view_types(list) else {
-        return Err(NoRoom);
-    };
-    match view {
+    match store.view_types(list).ok_or(NoRoom)? {
         ListView::Nil => Ok(Turn::Up(list)),
         ListView::Cons(a, rest) => {
-            if f.push_all(&[rest, Wait::Head as u64]) {
-                Ok(Turn::DownType(a))
-            } else {
-                Err(NoRoom)
-            }
+            stack.push_all(&[rest, Wait::Head as u64])?;
+            Ok(Turn::DownType(a))
         }
     }
 }
 
 // Up with what was built, to what waits for it.
-fn up<S: Store>(store: &mut S, f: &mut Frame<'_>, n: u64) -> Result<Turn, NoRoom>
-    requires { Within f.old }
-    ensures within { Within f.new }
-    ensures same { Same f.old f.new }
-    ensures top_name { f.new.top.ghost_name ≡ f.old.top.ghost_name }
-    ensures words_name { f.new.words.ghost_name ≡ f.old.words.ghost_name }
-    ensures moves { (es : TySubst) (x : Point) → At (S.state store.old).contents (held f.old) (Turn.Up n) x → Moves es (capacity f.old) (S.state store.old) (S.state store.new) (held f.new) x result }
+fn up<S: Store>(store: &mut S, stack: &mut Stack<'_>, n: u64) -> Result<Turn, NoRoom>
+    ensures capacity { stack.new.capacity ≡ stack.old.capacity }
+    ensures moves { (es : TySubst) (x : Point) → At (S.state store.old).contents stack.old.held (Turn.Up n) x → Moves es stack.old.capacity (S.state store.old) (S.state store.new) stack.new.held x result }
 {
-    let Some((k, kept)) = f.pop_pair() else {
+    let Some((k, kept)) = stack.pop_pair() else {
         return Ok(Turn::End(n));
     };
-    match wait(k) {
-        Wait::Arguments => match store.type_named(kept, n) {
-            Some(a) => Ok(Turn::Up(a)),
-            None => Err(NoRoom),
-        },
+    match Wait::from(k) {
+        Wait::Arguments => Ok(Turn::Up(store.type_named(kept, n).ok_or(NoRoom)?)),
         Wait::Head => {
-            if f.push_all(&[n, Wait::Tail as u64]) {
-                Ok(Turn::DownTypes(kept))
-            } else {
-                Err(NoRoom)
-            }
+            stack.push_all(&[n, Wait::Tail as u64])?;
+            Ok(Turn::DownTypes(kept))
         }
-        Wait::Tail => match store.cons_type(kept, n) {
-            Some(list) => Ok(Turn::Up(list)),
-            None => Err(NoRoom),
-        },
-    }
-}
-
-// One move, unless it is the end.
-fn step<S: Store>(
-    store: &mut S,
-    f: &mut Frame<'_>,
-    entries: &[u64],
-    turn: Turn,
-) -> Result<Turn, NoRoom>
-    requires { Within f.old }
-    ensures within { Within f.new }
-    ensures same { Same f.old f.new }
-    ensures top_name { f.new.top.ghost_name ≡ f.old.top.ghost_name }
-    ensures words_name { f.new.words.ghost_name ≡ f.old.words.ghost_name }
-    ensures moves { (es : TySubst) (x : Point) → TyEntries (S.state store.old).contents entries.now es → At (S.state store.old).contents (held f.old) turn x → 0 < moves x → Moves es (capacity f.old) (S.state store.old) (S.state store.new) (held f.new) x result }
-{
-    match turn {
-        Turn::DownType(a) => down_type(store, f, entries, a),
-        Turn::DownTypes(list) => down_types(store, f, list),
-        Turn::Up(n) => up(store, f, n),
-        Turn::End(n) => Ok(Turn::End(n)),
+        Wait::Tail => Ok(Turn::Up(store.cons_type(kept, n).ok_or(NoRoom)?)),
     }
 }
 
@@ -162,23 +89,22 @@ fn step<S: Store>(
 fn run<S: Store>(
     store: &mut S,
     words: &mut [u64],
-    top: &mut usize,
     entries: &[u64],
     start: Turn,
 ) -> Result<u64, NoRoom>
-    requires stack { top.old ≤ length words.old }
     requires entries { (es : TySubst) × TyEntries (S.state store.old).contents entries.now es }
     requires start { (k : Sort) × (y : Of k) × At (S.state store.old).contents [] start (down root y) }
-    ensures stack { Restores words.old top.old words.new top.new }
-    ensures made { (es : TySubst) (k : Sort) (y : Of k) → TyEntries (S.state store.old).contents entries.now es → At (S.state store.old).contents [] start (down root y) → Rebuilds (length words.old - top.old) (nodes k y) (nodes k (substituted es k y)) (S.state store.old) (S.state store.new) (Is (item k (substituted es k y))) result }
+    ensures { (es : TySubst) (k : Sort) (y : Of k) → TyEntries (S.state store.old).contents entries.now es → At (S.state store.old).contents [] start (down root y) → Rebuilds (length words.old) (nodes k y) (nodes k (substituted es k y)) (S.state store.old) (S.state store.new) (Is (item k (substituted es k y))) result }
 {
-    let mut f = Frame::new(words, top);
+    let mut stack = Stack::new(words);
     let mut turn = start;
     loop {
-        if let Turn::End(n) = turn {
-            return Ok(n);
-        }
-        turn = step(store, &mut f, entries, turn)?;
+        turn = match turn {
+            Turn::DownType(a) => down_type(store, &mut stack, entries, a)?,
+            Turn::DownTypes(list) => down_types(store, &mut stack, list)?,
+            Turn::Up(n) => up(store, &mut stack, n)?,
+            Turn::End(n) => return Ok(n),
+        };
     }
 }
 
@@ -186,32 +112,26 @@ fn run<S: Store>(
 pub fn subst_type<S: Store>(
     store: &mut S,
     words: &mut [u64],
-    top: &mut usize,
     entries: &[u64],
     a: u64,
 ) -> Result<u64, NoRoom>
-    requires stack { top.old ≤ length words.old }
     requires entries { (es : TySubst) × TyEntries (S.state store.old).contents entries.now es }
     requires stands { (b : Ty) × ((S.state store.old).contents.typ a ≡ some b) }
-    ensures stack { Restores words.old top.old words.new top.new }
-    ensures made { (es : TySubst) (b : Ty) → TyEntries (S.state store.old).contents entries.now es → (S.state store.old).contents.typ a ≡ some b → Rebuilds (length words.old - top.old) (nodes_ty b) (nodes_ty (subst_ty es b)) (S.state store.old) (S.state store.new) (λ d n. d.typ n ≡ some (subst_ty es b)) result }
+    ensures { (es : TySubst) (b : Ty) → TyEntries (S.state store.old).contents entries.now es → (S.state store.old).contents.typ a ≡ some b → Rebuilds (length words.old) (nodes_ty b) (nodes_ty (subst_ty es b)) (S.state store.old) (S.state store.new) (λ d n. d.typ n ≡ some (subst_ty es b)) result }
 {
-    run(store, words, top, entries, Turn::DownType(a))
+    run(store, words, entries, Turn::DownType(a))
 }
 
 // The same in every type of a list.
 pub fn subst_types<S: Store>(
     store: &mut S,
     words: &mut [u64],
-    top: &mut usize,
     entries: &[u64],
     list: u64,
 ) -> Result<u64, NoRoom>
-    requires stack { top.old ≤ length words.old }
     requires entries { (es : TySubst) × TyEntries (S.state store.old).contents entries.now es }
     requires stands { (b : Tys) × ((S.state store.old).contents.types list ≡ some b) }
-    ensures stack { Restores words.old top.old words.new top.new }
-    ensures made { (es : TySubst) (b : Tys) → TyEntries (S.state store.old).contents entries.now es → (S.state store.old).contents.types list ≡ some b → Rebuilds (length words.old - top.old) (nodes_tys b) (nodes_tys (subst_tys es b)) (S.state store.old) (S.state store.new) (λ d n. d.types n ≡ some (subst_tys es b)) result }
+    ensures { (es : TySubst) (b : Tys) → TyEntries (S.state store.old).contents entries.now es → (S.state store.old).contents.types list ≡ some b → Rebuilds (length words.old) (nodes_tys b) (nodes_tys (subst_tys es b)) (S.state store.old) (S.state store.new) (λ d n. d.types n ≡ some (subst_tys es b)) result }
 {
-    run(store, words, top, entries, Turn::DownTypes(list))
+    run(store, words, entries, Turn::DownTypes(list))
 }

@@ -71,7 +71,8 @@ pub trait Store {
     fn cons_term(&mut self, t: u64, rest: u64) -> Option<u64>
         ensures { Builds 1 (state self.old) (state self.new) (IsTerms t rest) result };
 
-    // COMPARING takes no room and ends for any two numbers.
+    // COMPARING takes no room and ends for any two numbers. One function for each kind of number, as what a number stands for is told by
+    // the map that is asked: a function over all kinds would need a type for each in every signature, and say the same three clauses.
 
     // Whether two numbers stand for the same term.
     fn same(&mut self, s: u64, t: u64) -> bool

@@ -1,17 +1,25 @@
--- Looking through a table from the newest row to the oldest.
-use Rattle.std.proofs.Common.{◌≡◌, ℕ, ◌-◌, ◌<◌, ◌≤◌, Bool, true, false, cond, ◌&&◌, List, [], ◌∷◌, length, sym, refl, ap, ◌∙◌, subst, inl, inr, arith}
+-- Looking through a table from the newest declaration to the oldest.
+use Rattle.std.proofs.Common.{◌≡◌, ℕ, ◌+◌, ◌*◌, ◌-◌, ◌<◌, ◌≤◌, Bool, true, false, cond, ◌&&◌, List, [], ◌∷◌, ◌++◌, length, reverse, take, drop, get_or, ◌==◌, Some, None, Option as Maybe, sym, refl, ap, ◌∙◌, inl, inr, arith}
+use Rattle.std.specs.Option.{is_some}
+use Rattle.std.proofs.lemmas.List.{reverse-append, length-reverse, take-append-drop, drop_more, drop_all}
 use mathlib.Core.Option.{some, none}
 use Rattle.hol.specs.Base.{Word, same_word}
-use Rattle.hol.specs.Theory.{Decl, Theory}
+use Rattle.hol.specs.Theory.{Decl, d_type, d_const, d_def, d_axiom, d_thm, Theory}
 use Rattle.hol.proofs.Tools.{decided, clash, some_same}
 use Rattle.hol.proofs.Equality.{word_eq, word_refl}
 use Rattle.store.specs.State.{Contents, Keeps}
-use Rattle.signature.specs.Finds.{Found}
-use Rattle.theory.specs.declared.row.Row.{Row}
-use Rattle.theory.specs.declared.row.Wanted.{Wanted}
-use Rattle.theory.specs.Rows.{decl_kind, decl_name, row_at, Says, Table}
+use Rattle.signature.specs.Finds.{Finds}
+use Rattle.theory.specs.declared.declaration.Declaration.{Declaration}
+use Rattle.theory.specs.declared.declaration.Declaration.TheVariants.{«Type» as Typename, Constant, Definition, Axiom, Theorem}
+use Rattle.theory.specs.Rows.{declaration_of, Says, Table}
 use Rattle.theory.specs.Kept.{says_kept}
-use Rattle.theory.specs.Lookups.{finds, newest}
+use Rattle.theory.specs.Lookups.{Part, decl_name, newest}
+
+-- how many declarations stand in the words
+pub table_length : (c : Contents) (ws : List ℕ) (th : Theory) → Table c ws th → length ws ≡ 4 * length th
+table_length c [] [] x = refl
+table_length c (s ∷ f ∷ n ∷ k ∷ ws) (d ∷ th) x = omega (arith, table_length c ws th x.1)
+table_length c _ _ x = absurd x
 
 -- what a comparison of two numbers says of the names that they stand for
 names_same : (c : Contents) (m n : ℕ) (v w : Word) (r : Bool) → c.word m ≡ some v → c.word n ≡ some w
@@ -27,74 +35,116 @@ names_same c m n v w r ev ew sound complete =
       ]
     ]
 
--- a row of a wanted kind, by the comparison of its name
-module _ (c : Contents) (x : Wanted) (n : ℕ) (r : Row) (w : Word) (d : Decl) (word : c.word n ≡ some w) (s : Says c r d) where
-  pub wanted_row : (b : Bool) → finds x r.kind ≡ true → (b ≡ true → c.word n ≡ c.word r.name)
-      → ((u : Word) → c.word n ≡ some u → c.word r.name ≡ some u → b ≡ true)
-      → b ≡ (finds x (decl_kind d) && same_word w (decl_name d))
-  wanted_row b h sound complete =
-      let e = names_same c n r.name w (decl_name d) b word s.name sound complete in
-      rw (sym (ap (finds x) s.kind) ∙ h) e
+-- the name of a declaration of four words is the second of them
+abbrev named : Declaration → ℕ
+named (Typename n) = n
+named (Constant n a) = n
+named (Definition n a t) = n
+named (Axiom n t) = n
+named (Theorem n h t) = n
 
--- i rows are left, and what they say decides
-pub record Looking (c : Contents) (ws : List ℕ) (x : Wanted) (w : Word) (th : Theory) (i : ℕ) : Type 0 where
+says_named : (c : Contents) (r : Declaration) (d : Decl) → Says c r d → c.word (named r) ≡ some (decl_name d)
+says_named c (Typename n) (d_type w) s = s
+says_named c (Constant n a) (d_const w ty) s = s.0
+says_named c (Definition n a t) (d_def w ty b) s = s.0
+says_named c (Axiom n t) (d_axiom w p) s = s.0
+says_named c (Theorem n h t) (d_thm w q) s = s.0
+says_named c _ _ s = absurd s
+
+named_cond : (b : Bool) (p q : Declaration) (n : ℕ) → named p ≡ n → named q ≡ n → named (cond b p q) ≡ n
+named_cond true p q n e f = e
+named_cond false p q n e f = f
+
+named-declaration_of : (k n f s : ℕ) → named (declaration_of k n f s) ≡ n
+named-declaration_of k n f s =
+    named_cond (k == 0) _ _ n refl (named_cond (k == 1) _ _ n refl (named_cond (k == 2) _ _ n refl (named_cond (k == 3) _ _ n refl refl)))
+
+-- words are left, the newest first, and what they say decides
+pub record Looking (c : Contents) (ws : List ℕ) (x : Decl → Bool) (w : Word) (th : Theory) : Type 0 where
   pub rest : Theory
-  pub count : i ≡ length rest
   pub table : Table c ws rest
   pub decides : newest x w th ≡ newest x w rest
 
--- is the row at place i of the name w, and among what is wanted?
-abbrev pub Tells : Contents → List ℕ → Wanted → Word → ℕ → Bool → Type 0
-Tells c ws x w i b = (d : Decl) → Says c (row_at ws i) d → b ≡ (finds x (decl_kind d) && same_word w (decl_name d))
+-- no declaration is left
+none_left : (c : Contents) (x : Decl → Bool) (w : Word) (ws : List ℕ) (rest : Theory) → length ws < 4 → Table c ws rest → newest x w rest ≡ none
+none_left c x w [] [] h t = refl
+none_left c x w (s ∷ f ∷ n ∷ k ∷ ws) (d ∷ th) h t = absurd (omega arith)
+none_left c x w _ _ h t = absurd t
 
--- what a test of the row says while the store has grown from c to e
-pub told : {c e : Contents} (ws : List ℕ) (x : Wanted) {w : Word} (i : ℕ) {n : ℕ} {r : Row} {b t : Bool}
-    → Keeps c e → r ≡ row_at ws i → c.word n ≡ some w
-    → ((d : Decl) → e.word n ≡ some w → Says e r d → b ≡ (finds x (decl_kind d) && same_word w (decl_name d)))
-    → b ≡ t → Tells c ws x w i t
-told ws x i k is word says h d s = sym h ∙ says d (k.word _ _ word) (says_kept k _ d (rw is s))
-
--- the newest of the rows that are left
-record Head (c : Contents) (ws : List ℕ) (x : Wanted) (w : Word) (th : Theory) (i : ℕ) : Type 0 where
+-- the newest declaration that is left
+record Head (c : Contents) (r : Declaration) (ws : List ℕ) (x : Decl → Bool) (w : Word) (th : Theory) : Type 0 where
   decl : Decl
   older : Theory
-  count : i ≡ length older
-  says : Says c (row_at ws i) decl
+  says : Says c r decl
   table : Table c ws older
   decides : newest x w th ≡ newest x w (decl ∷ older)
 
--- what a test of that row says decides
-by_test : {c : Contents} {ws : List ℕ} {x : Wanted} {w : Word} {th : Theory} {i : ℕ} {b : Bool} (y : Head c ws x w th i)
-    → Tells c ws x w i b → newest x w th ≡ cond b (some y.decl) (newest x w y.older)
-by_test {x = x} {w = w} y t =
-    y.decides ∙ ap (λ v. cond v (some y.decl) (newest x w y.older)) (sym (t y.decl y.says))
+head : (c : Contents) (x : Decl → Bool) (w : Word) (th : Theory) (s f n k : ℕ) (ws : List ℕ) → Looking c (s ∷ f ∷ n ∷ k ∷ ws) x w th
+    → Head c (declaration_of k n f s) ws x w th
+head c x w th s f n k ws l = from l.rest l.table l.decides where
+  from : (rest : Theory) → Table c (s ∷ f ∷ n ∷ k ∷ ws) rest → newest x w th ≡ newest x w rest → Head c (declaration_of k n f s) ws x w th
+  from [] t d = absurd t
+  from (y ∷ ys) t d = record { decl = y; older = ys; says = t.0; table = t.1; decides = d }
 
-head : (c : Contents) (ws : List ℕ) (x : Wanted) (w : Word) (th : Theory) (i : ℕ)
-    → Looking c ws x w th i → 0 < i → Head c ws x w th (i - 1)
-head c ws x w th i k h = from k.rest k.count k.table k.decides where
-  from : (rest : Theory) → i ≡ length rest → Table c ws rest → newest x w th ≡ newest x w rest → Head c ws x w th (i - 1)
-  from [] e t d = absurd (omega arith)
-  from (y ∷ ys) e t d =
-      let n : i - 1 ≡ length ys = omega arith in
-      record { decl = y; older = ys; count = n; says = subst (λ m. Says c (row_at ws m) y) (sym n) t.0; table = t.1; decides = d }
+-- the declaration of the last four of the words, the newest
+abbrev pub last_of : List ℕ → Declaration
+last_of ws = declaration_of (get_or ws (length ws - 4) 0) (get_or ws (length ws - 3) 0) (get_or ws (length ws - 2) 0) (get_or ws (length ws - 1) 0)
 
-module _ (c : Contents) (ws : List ℕ) (x : Wanted) (w : Word) (th : Theory) (i : ℕ) (k : Looking c ws x w th i) where
-  -- the row is not wanted: on to the older ones
-  pub on : 0 < i → Tells c ws x w (i - 1) false → Looking c ws x w th (i - 1)
-  on h b =
-      let y = head c ws x w th i k h in
-      record { rest = y.older; count = y.count; table = y.table; decides = by_test y b }
+one_more : (ws : List ℕ) (i j : ℕ) → i < length ws → j ≡ i + 1 → drop i ws ≡ get_or ws i 0 ∷ drop j ws
+one_more ws i j h e = rw e (drop_more ws i 0 h)
 
-  -- the row is wanted
-  pub here : 0 < i → Tells c ws x w (i - 1) true → (r : Row) → r ≡ row_at ws (i - 1)
-      → Found (λ d k. Says c k d) (newest x w th) r
-  here h b r e =
-      let y = head c ws x w th i k h in
-      rw e record { what = y.decl; is = by_test y b; stands = y.says }
+four_last : (ws : List ℕ) → 4 ≤ length ws
+    → reverse ws
+    ≡ get_or ws (length ws - 1) 0 ∷ get_or ws (length ws - 2) 0 ∷ get_or ws (length ws - 3) 0 ∷ get_or ws (length ws - 4) 0
+    ∷ reverse (take (length ws - 4) ws)
+four_last ws h =
+    let e0 = one_more ws (length ws - 4) (length ws - 3) (omega arith) (omega arith) in
+    let e1 = one_more ws (length ws - 3) (length ws - 2) (omega arith) (omega arith) in
+    let e2 = one_more ws (length ws - 2) (length ws - 1) (omega arith) (omega arith) in
+    let e3 = one_more ws (length ws - 1) (length ws) (omega arith) (omega arith) in
+    let e4 = drop_all (length ws) ws (omega arith) in
+    let older = take (length ws - 4) ws in
+    let last : drop (length ws - 4) ws
+    ≡ get_or ws (length ws - 4) 0 ∷ get_or ws (length ws - 3) 0 ∷ get_or ws (length ws - 2) 0 ∷ get_or ws (length ws - 1) 0 ∷ []
+    = rw (e0, e1, e2, e3, e4) refl in
+    ap reverse (sym (take-append-drop (length ws - 4) ws) ∙ ap (λ vs. older ++ vs) last) ∙ reverse-append older _
 
-  -- no row is left
-  pub nowhere : i ≤ 0 → newest x w th ≡ none
-  nowhere h = k.decides ∙ empty k.rest k.count where
-    empty : (rest : Theory) → i ≡ length rest → newest x w rest ≡ none
-    empty [] e = refl
-    empty (y ∷ ys) e = absurd (omega arith)
+-- is a declaration of these numbers among what is wanted, and of this name?
+abbrev pub Tells : Contents → (Decl → Bool) → Word → Declaration → Bool → Type 0
+Tells c x w r b = (d : Decl) → Says c r d → (x d && same_word w (decl_name d)) ≡ b
+
+module _ (c : Contents) (x : Decl → Bool) (w : Word) (ws : List ℕ) where
+  pub unwanted : ((d : Decl) → Says c (last_of ws) d → x d ≡ false) → Tells c x w (last_of ws) false
+  unwanted h d s = rw (h d s) refl
+
+  -- the names are compared while the store has grown from c to e
+  pub compared : {e : Contents} (n : ℕ) (b : Bool) → Keeps c e → c.word n ≡ some w → ((d : Decl) → Says c (last_of ws) d → x d ≡ true)
+      → (b ≡ true → e.word n ≡ e.word (get_or ws (length ws - 3) 0))
+      → ((u : Word) → e.word n ≡ some u → e.word (get_or ws (length ws - 3) 0) ≡ some u → b ≡ true)
+      → Tells c x w (last_of ws) b
+  compared {e} n b k word t sound complete d s =
+      let name = rw (named-declaration_of _ _ _ _) at (says_named e _ d (says_kept k _ d s)) in
+      rw (t d s) (sym (names_same e n _ w (decl_name d) b (k.word _ _ word) name sound complete))
+
+  module _ {th : Theory} (h : 4 ≤ length ws) (l : Looking c (reverse ws) x w th) where
+    newest_left : Head c (last_of ws) (reverse (take (length ws - 4) ws)) x w th
+    newest_left = head c x w th _ _ _ _ _ (rw (four_last ws h) at l)
+
+    by_test : {b : Bool} → Tells c x w (last_of ws) b → newest x w th ≡ cond b (some newest_left.decl) (newest x w newest_left.older)
+    by_test t = let y = newest_left in y.decides ∙ ap (λ v. cond v (some y.decl) (newest x w y.older)) (t y.decl y.says)
+
+    -- it is not wanted: on to the older ones
+    pub on : Tells c x w (last_of ws) false → Looking c (reverse (take (length ws - 4) ws)) x w th
+    on t = record { rest = newest_left.older; table = newest_left.table; decides = by_test t }
+
+    -- it is wanted, and m is the answer at it
+    pub here : {X : Type 0} (post : Declaration → Maybe X → Type 0) (m : Maybe X) → Tells c x w (last_of ws) true → is_some m ≡ true
+        → post (last_of ws) m → Finds (Part c post) (newest x w th) m
+    here post None t e p = clash e refl
+    here post (Some y) t e p =
+        record { what = newest_left.decl; is = by_test t; stands = record { numbers = last_of ws; says = newest_left.says; answers = p } }
+
+-- no declaration is left
+pub nowhere : (c : Contents) (x : Decl → Bool) (w : Word) (th : Theory) (ws : List ℕ) → length ws < 4 → Looking c (reverse ws) x w th
+    → newest x w th ≡ none
+nowhere c x w th ws h k = k.decides ∙ none_left c x w (reverse ws) k.rest (rw length-reverse h) k.table

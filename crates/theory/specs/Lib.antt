@@ -1,3 +1,5 @@
+-- names and types that are always there
+pub mod Grounds
 -- which declarations the words of a table stand for
 pub mod Rows
 -- which theory a table stands for, and what adding to it does

@@ -1,31 +1,36 @@
 -- What is looked for in a table, and what is found.
-use Rattle.std.specs.Prelude.{◌≡◌, ℕ, Bool, cond, ◌&&◌, ◌||◌, [], ◌∷◌, ◌==◌}
+use Rattle.std.specs.Prelude.{◌≡◌, ℕ, Bool, cond, ◌&&◌, [], ◌∷◌, Some, Option as Maybe}
+use Rattle.std.specs.Option.{is_some}
 use Rattle.std.proofs.Math.Option.{Option, some, none}
 use Rattle.hol.specs.Base.{Word, same_word}
 use Rattle.hol.specs.Syntax.{Seq}
-use Rattle.hol.specs.Theory.{Decl, Theory}
+use Rattle.hol.specs.Theory.{Decl, d_type, d_const, d_def, d_axiom, d_thm, Theory}
 use Rattle.hol.specs.Kernel.{Definition as Defined}
 use Rattle.store.specs.State.{Contents}
-use Rattle.theory.specs.declared.row.Kind.{Kind}
-use Rattle.theory.specs.declared.row.Kind.TheVariants.{TypeName, Constant, Definition, Axiom, Theorem}
-use Rattle.theory.specs.declared.row.Wanted.{Wanted}
-use Rattle.theory.specs.declared.row.Wanted.TheVariants.{Types, Constants, Definitions, Sequents}
-use Rattle.theory.specs.Rows.{kind_code, decl_kind, decl_name}
+use Rattle.theory.specs.declared.declaration.Declaration.{Declaration}
+use Rattle.theory.specs.Rows.{Says}
 
-abbrev pub same_kind : Kind → Kind → Bool
-same_kind j k = kind_code j == kind_code k
+abbrev pub decl_name : Decl → Word
+decl_name (d_type w) = w
+decl_name (d_const w a) = w
+decl_name (d_def w a t) = w
+decl_name (d_axiom w t) = w
+decl_name (d_thm w s) = w
 
--- is a declaration of this kind among what is wanted?
-abbrev pub finds : Wanted → Kind → Bool
-finds Types k = same_kind k TypeName
-finds Constants k = same_kind k Constant || same_kind k Definition
-finds Definitions k = same_kind k Definition
-finds Sequents k = same_kind k Axiom || same_kind k Theorem
+-- the newest declaration of the name w among those that are wanted
+abbrev pub newest : (Decl → Bool) → Word → Theory → Option Decl
+newest wanted w [] = none
+newest wanted w (d ∷ th) = cond (wanted d && same_word w (decl_name d)) (some d) (newest wanted w th)
 
--- the newest declaration of the name w among what is wanted
-abbrev pub newest : Wanted → Word → Theory → Option Decl
-newest x w [] = none
-newest x w (d ∷ th) = cond (finds x (decl_kind d) && same_word w (decl_name d)) (some d) (newest x w th)
+-- an answer comes at the declarations that are wanted, and at no other
+pub record Picks {X : Type 0} (c : Contents) (post : Declaration → Maybe X → Type 0) (wanted : Decl → Bool) : Type 0 where
+  pub picks : (r : Declaration) (d : Decl) (o : Maybe X) → Says c r d → post r o → is_some o ≡ wanted d
+
+-- x is the answer at numbers for the declaration d
+pub record Part {X : Type 0} (c : Contents) (post : Declaration → Maybe X → Type 0) (d : Decl) (x : X) : Type 0 where
+  pub numbers : Declaration
+  pub says : Says c numbers d
+  pub answers : post numbers (Some x)
 
 -- two numbers for the type and the body of a definition
 abbrev pub DefAt : Contents → Defined → ℕ × ℕ → Type 0

@@ -1,61 +1,39 @@
 -- Which declarations the words of a table stand for.
-use Rattle.std.specs.Prelude.{◌≡◌, ℕ, ◌+◌, ◌*◌, cond, List, [], ◌∷◌, length, ◌==◌, slice_index}
+use Rattle.std.specs.Prelude.{◌≡◌, ℕ, cond, List, [], ◌∷◌, ◌==◌, slice_index}
 use Rattle.std.proofs.Math.Option.{some}
-use Rattle.hol.specs.Base.{Word}
 use Rattle.hol.specs.Theory.{Decl, d_type, d_const, d_def, d_axiom, d_thm, Theory}
 use Rattle.store.specs.State.{Contents}
-use Rattle.theory.specs.declared.row.Kind.{Kind}
-use Rattle.theory.specs.declared.row.Kind.TheVariants.{TypeName, Constant, Definition, Axiom, Theorem}
-use Rattle.theory.specs.declared.row.Row.{Row}
+use Rattle.theory.specs.declared.declaration.Declaration.{Declaration}
+use Rattle.theory.specs.declared.declaration.Declaration.TheVariants.{«Type» as Typename, Constant, Definition, Axiom, Theorem}
 
--- the code of a kind
-abbrev pub kind_code : Kind → ℕ
-kind_code TypeName = 0
-kind_code Constant = 1
-kind_code Definition = 2
-kind_code Axiom = 3
-kind_code Theorem = 4
+-- the four words of a declaration, the code first
+abbrev pub words_of : Declaration → List ℕ
+words_of (Typename n) = 0 ∷ n ∷ 0 ∷ 0 ∷ []
+words_of (Constant n a) = 1 ∷ n ∷ a ∷ 0 ∷ []
+words_of (Definition n a t) = 2 ∷ n ∷ a ∷ t ∷ []
+words_of (Axiom n t) = 3 ∷ n ∷ 0 ∷ t ∷ []
+words_of (Theorem n h t) = 4 ∷ n ∷ h ∷ t ∷ []
 
-abbrev pub kind_of : ℕ → Kind
-kind_of n = cond (n == 0) TypeName (cond (n == 1) Constant (cond (n == 2) Definition (cond (n == 3) Axiom Theorem)))
+-- the declaration of four words: a code, a name, and two parts
+abbrev pub declaration_of : ℕ → ℕ → ℕ → ℕ → Declaration
+declaration_of k n f s =
+    cond (k == 0) (Typename n) (cond (k == 1) (Constant n f) (cond (k == 2) (Definition n f s) (cond (k == 3) (Axiom n s) (Theorem n f s))))
 
-abbrev pub row_of : Kind → ℕ → ℕ → ℕ → Row
-row_of k w m n = record { kind = k; name = w; first = m; second = n }
+-- d is the declaration of the words ws
+abbrev pub Reads : List ℕ → Declaration → Type 0
+Reads ws d = d ≡ declaration_of (slice_index ws 0) (slice_index ws 1) (slice_index ws 2) (slice_index ws 3)
 
--- the row at place i of the words
-abbrev pub row_at : List ℕ → ℕ → Row
-row_at ws i = row_of (kind_of (slice_index ws (4 * i))) (slice_index ws (4 * i + 1)) (slice_index ws (4 * i + 2)) (slice_index ws (4 * i + 3))
+-- a declaration by numbers stands for one of the definitions
+abbrev pub Says : Contents → Declaration → Decl → Type 0
+Says c (Typename n) (d_type w) = c.word n ≡ some w
+Says c (Constant n a) (d_const w ty) = (c.word n ≡ some w) × (c.typ a ≡ some ty)
+Says c (Definition n a t) (d_def w ty body) = (c.word n ≡ some w) × (c.typ a ≡ some ty) × (c.term t ≡ some body)
+Says c (Axiom n t) (d_axiom w concl) = (c.word n ≡ some w) × (c.term t ≡ some concl)
+Says c (Theorem n h t) (d_thm w s) = (c.word n ≡ some w) × (c.terms h ≡ some s.hyps) × (c.term t ≡ some s.concl)
+Says c _ _ = ⊥
 
--- a declaration's kind and name
-abbrev pub decl_kind : Decl → Kind
-decl_kind (d_type w) = TypeName
-decl_kind (d_const w a) = Constant
-decl_kind (d_def w a t) = Definition
-decl_kind (d_axiom w t) = Axiom
-decl_kind (d_thm w s) = Theorem
-
-abbrev pub decl_name : Decl → Word
-decl_name (d_type w) = w
-decl_name (d_const w a) = w
-decl_name (d_def w a t) = w
-decl_name (d_axiom w t) = w
-decl_name (d_thm w s) = w
-
--- what the two parts of a row stand for
-abbrev pub Parts : Contents → ℕ → ℕ → Decl → Type 0
-Parts c m n (d_type w) = Unit {0}
-Parts c m n (d_const w a) = c.typ m ≡ some a
-Parts c m n (d_def w a t) = (c.typ m ≡ some a) × (c.term n ≡ some t)
-Parts c m n (d_axiom w t) = c.term n ≡ some t
-Parts c m n (d_thm w s) = (c.terms m ≡ some s.hyps) × (c.term n ≡ some s.concl)
-
--- a row stands for a declaration
-pub record Says (c : Contents) (r : Row) (d : Decl) : Type 0 where
-  pub kind : r.kind ≡ decl_kind d
-  pub name : c.word r.name ≡ some (decl_name d)
-  pub parts : Parts c r.first r.second d
-
--- the words stand for a theory: the row of its oldest declaration comes first
+-- the words, the newest first, stand for a theory
 abbrev pub Table : Contents → List ℕ → Theory → Type 0
-Table c ws [] = Unit {0}
-Table c ws (d ∷ th) = Says c (row_at ws (length th)) d × Table c ws th
+Table c [] [] = Unit {0}
+Table c (s ∷ f ∷ n ∷ k ∷ ws) (d ∷ th) = Says c (declaration_of k n f s) d × Table c ws th
+Table c _ _ = ⊥

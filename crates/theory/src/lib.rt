@@ -1,5 +1,6 @@
 // The declarations of a theory, in words that the caller lends.
 #![tactic(auto)]
 
-pub mod row;
+pub mod declaration;
+pub mod ground;
 pub mod table;

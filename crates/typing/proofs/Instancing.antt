@@ -1,22 +1,29 @@
 -- A type with types for its type variables: what the loops answer, and what the definitions say.
-use Rattle.std.proofs.Common.{◌≡◌, ℕ, ◌+◌, ◌-◌, ◌*◌, ◌/◌, ◌<◌, ◌≤◌, Bool, true, false, ◌&&◌, eqb, ◌⊎◌, List, [], length, take, Some, None, sym, refl, ap, ◌∙◌, inl, inr, arith, eqb→eq, length-take-le}
+use Rattle.std.proofs.Common.{◌≡◌, ℕ, ◌+◌, ◌-◌, ◌*◌, ◌<◌, ◌≤◌, Bool, true, false, ◌&&◌, eqb, ◌⊎◌, List, [], length, take, reverse, Some, None, sym, refl, ap, ◌∙◌, inl, inr, arith, eqb→eq, length-take-le}
 use mathlib.Core.Option.{some, none}
+use Rattle.std.proofs.lemmas.List.{reverse-reverse}
 use Rattle.hol.specs.Base.{Word}
-use Rattle.hol.specs.Syntax.{Ty, tyvar, tyapp, Tys, count_tys, tyvars_ty, subst_ty, zip}
+use Rattle.hol.specs.Syntax.{Ty, tyvar, tyapp, Tys, count_tys, tyvars_ty, subst_ty, zip, TySubst}
 use Rattle.hol.specs.Theory.{Theory, const_ty, ok_tys, const_at}
 use Rattle.store.specs.Measures.{nodes_ty, nodes_tys}
-use Rattle.store.specs.State.{State, Stays}
+use Rattle.store.specs.State.{Contents, State, Stays}
 use Rattle.store.specs.Builds.{Made}
 use Rattle.store.proofs.Growth.{grows_on, grows-more}
+use Rattle.lent.specs.Piles.{Pile, pile}
+use Rattle.rebuild_types.specs.Entries.{TyEntries}
 use Rattle.walk.specs.TypeVars.{Short}
-use Rattle.walk.specs.Standing.{Stand, done, more, Names}
+use Rattle.walk.specs.Standing.{Names}
+use Rattle.walk.proofs.Gathering.{stand_same_length}
+use Rattle.walk.proofs.NameLists.{listed}
 use Rattle.walk.proofs.Lengths.{type_length}
 use Rattle.typing.specs.Typed.{Typed, Tight, nodes_of, declared, instance}
 
--- words that stand for names are as many
-stand_count : {I : Type 0} {at : ℕ → mathlib.Core.Option.Option I} {ns : List ℕ} {is : List I} → Stand at ns is → length ns ≡ length is
-stand_count done = refl
-stand_count (more e h) = let k = stand_count h in omega arith
+-- the words of a stack, the oldest first
+pub stacked : (c : Contents) (ws : List ℕ) (n : ℕ) (p : Pile) {us : List Word} → pile ws n ≡ p → Names c (reverse p.held) us → Names c (take n ws) us
+stacked c ws n p e h = listed c (ap (λ q. q.held) e) h
+
+pub entries_stacked : (c : Contents) {ns ms : List ℕ} {es : TySubst} → reverse ms ≡ ns → TyEntries c (reverse ns) es → TyEntries c ms es
+entries_stacked c {ms = ms} e h = rw (← e, reverse-reverse ms) at h
 
 -- after a call that changes nothing
 pub typed_after : {cost : ℕ} {s t u : State} {o : mathlib.Core.Option.Option Ty} {r : Rattle.std.specs.declared.option.Option.Option ℕ} → Stays s t → Typed cost t u o r → Typed cost s u o r
@@ -31,7 +38,7 @@ short_names b bs room scratch left (inr l) = inl (inr (omega arith))
 module _ {s t : State} (k : Stays s t) (b : Ty) (bs : Tys) (count : ℕ) (ms : List ℕ) (high : count ≤ length ms)
     (names : Names t.contents (take count ms) (tyvars_ty b [])) where
   pub counted : count ≡ length (tyvars_ty b [])
-  counted = sym (length-take-le count ms high) ∙ stand_count names
+  counted = sym (length-take-le count ms high) ∙ stand_same_length names
 
   pub as_many : true ≡ eqb (count_tys bs) count → count_tys bs ≡ count
   as_many q = eqb→eq (count_tys bs) count (rw (← q) tt)
@@ -45,8 +52,9 @@ module _ {s t : State} (k : Stays s t) (b : Ty) (bs : Tys) (count : ℕ) (ms : L
   pub not_as_many : false ≡ eqb (count_tys bs) count → Typed (nodes_of (instance b bs)) s t (instance b bs) None
   not_as_many q = record { grows = grows-more (omega arith) k.grows; finds = no_instance q }
 
-  pub few_words : length ms / 3 < count → length ms < 4 * nodes_ty b
-  few_words l = let n = type_length b [] in let e = counted in omega arith
+  -- the words behind them are too few for the pairs
+  pub few_words : {free : ℕ} → free + count ≡ length ms → free < 2 * count → length ms < 4 * nodes_ty b
+  few_words z l = let n = type_length b [] in let e = counted in omega arith
 
   pub made : {u : State} {n : ℕ} → true ≡ eqb (count_tys bs) count
       → Made (nodes_ty (subst_ty (zip (tyvars_ty b []) bs) b)) t u (λ d i. d.typ i ≡ some (subst_ty (zip (tyvars_ty b []) bs) b)) n

@@ -8,11 +8,9 @@ mod OkLists
 mod Paired
 -- a type with types for its type variables
 mod Instancing
--- a stack that is lent twice
-mod Restored
 -- function types, built and used up
 mod Forms
--- the n-th word of a frame
+-- what stands at a place of a list
 mod Scopes
 -- what the machine's stack and scope hold
 pub mod Stack

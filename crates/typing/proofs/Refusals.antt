@@ -1,46 +1,36 @@
--- A move that is refused lacks words of the stack, of scratch or of the scope, or nodes; and a frame that is handed on.
-use Rattle.std.proofs.Common.{◌≡◌, ℕ, ◌+◌, ◌-◌, ◌*◌, ◌<◌, ◌≤◌, List, [], ◌∷◌, length, Some, None, Option, sym, refl, ap, ◌∙◌, inl, inr, arith}
+-- A move that is refused lacks words of the stack, of scratch or of the scope, or nodes.
+use Rattle.std.proofs.Common.{◌≡◌, ℕ, ◌+◌, ◌-◌, ◌*◌, ◌<◌, ◌≤◌, List, [], ◌∷◌, length, Some, None, Option, sym, ap, ◌∙◌, inl, inr, arith}
 use mathlib.Core.Option.{some}
 use Rattle.hol.specs.Syntax.{Ty, Tm, const}
 use Rattle.hol.specs.Theory.{Theory, const_at}
 use Rattle.store.specs.Measures.{nodes_ty, nodes_tys, nodes_tm}
 use Rattle.store.specs.State.{Contents, State}
 use Rattle.store.specs.Views.{ViewFree, ViewConstant, ViewLambda}
-use Rattle.stack.specs.Frames.{Within, held, Pops}
-use Rattle.stack.specs.declared.frame.Frame.{Frame}
-use Rattle.stack.proofs.Lent.{same_trans}
-use Rattle.stack.proofs.Words.{unmoved}
+use Rattle.lent.specs.Piles.{Pile, Pops}
 use Rattle.typing.specs.Built.{types_built}
-use Rattle.typing.specs.Lending.{Goes}
 use Rattle.typing.specs.Typed.{Tight, nodes_of, declared}
-use Rattle.typing.specs.Machine.{Path, scope, around, code, Holds, holds_root, holds_func, holds_arg, holds_body, Point, down, up, At, at_down, at_up, Stuck}
+use Rattle.typing.specs.Machine.{Path, scope, around, Holds, holds_root, holds_func, holds_arg, holds_body, Point, down, up, At, at_down, at_up, Stuck}
 use Rattle.typing.specs.declared.turn.Turn.TheVariants.{Down, Up}
-use Rattle.typing.specs.declared.turn.Wait.{Wait}
-use Rattle.typing.specs.declared.turn.Wait.TheVariants.{Argument, Body}
+use Rattle.waits.specs.Codes.{Decodes}
+use Rattle.waits.specs.declared.Wait.{Wait}
+use Rattle.waits.specs.declared.Wait.TheVariants.{Argument, Body}
 use Rattle.typing.proofs.Sizes.{nodes_positive, declared-fits}
 use Rattle.typing.proofs.Stack.{stack_length, scope-length, Top, top, top-arg, top-body}
 
--- FRAMES
-pub stands_still : {f : Frame} → Within f → Goes f f
-stands_still {f} w = record { within = w; same = unmoved f; top_name = refl; words_name = refl }
-
-pub goes_on : {f g h : Frame} → Goes f g → Goes g h → Goes f h
-goes_on a b = record { within = b.within; same = same_trans a.same b.same; top_name = b.top_name ∙ a.top_name; words_name = b.words_name ∙ a.words_name }
-
 -- the newest word was popped
-pub pops_rest : (f g : Frame) (r : Option ℕ) {n : ℕ} {qs : List ℕ} → Pops f g r → held f ≡ n ∷ qs → held g ≡ qs
+pub pops_rest : (f g : Pile) (r : Option ℕ) {n : ℕ} {qs : List ℕ} → Pops f g r → f.held ≡ n ∷ qs → g.held ≡ qs
 pops_rest f g None {n} {qs} (e, z) h = let l = ap length (sym z ∙ h) in absurd (omega arith)
-pops_rest f g (Some m) {n} {qs} e h = cc
+pops_rest f g (Some m) {n} {qs} (e, z) h = cc
 
 -- what the numbers at hand stand for
-pub down-stands : {c : Contents} {ws ss : List ℕ} {n : ℕ} {x : Point} → At c ws ss (Down n) x → (u : Tm) × (c.term n ≡ some u)
+pub down-stands : {c : Contents} {ws ss : List ℕ} {n : ℕ} {x : Point} → At c ws ss (Some (Down n)) x → (u : Tm) × (c.term n ≡ some u)
 down-stands (at_down {t = u} e h) = (u, e)
 
-pub up_stands : {c : Contents} {ws ss : List ℕ} {n : ℕ} {x : Point} → At c ws ss (Up n) x → (a : Ty) × (c.typ n ≡ some a)
+pub up_stands : {c : Contents} {ws ss : List ℕ} {n : ℕ} {x : Point} → At c ws ss (Some (Up n)) x → (a : Ty) × (c.typ n ≡ some a)
 up_stands (at_up {a = a} e h) = (a, e)
 
-pub function_stands : {c : Contents} {ws ss vs : List ℕ} {n k kept : ℕ} {r : Wait} {x : Point} → At c ws ss (Up n) x → ws ≡ k ∷ kept ∷ vs
-    → ((w : Wait) → k ≡ code w → r ≡ w) → r ≡ Argument → (a : Ty) × (c.typ kept ≡ some a)
+pub function_stands : {c : Contents} {ws ss vs : List ℕ} {n k kept : ℕ} {r : Wait} {x : Point} → At c ws ss (Some (Up n)) x → ws ≡ k ∷ kept ∷ vs
+    → Decodes k r → r ≡ Argument → (a : Ty) × (c.typ kept ≡ some a)
 function_stands {c} {ss = ss} {vs = vs} {kept = kept} (at_up e h) q waits z = of (rw z at (top h q waits))
   where
     of : {p : Path} → Top c kept vs ss Argument p → (a : Ty) × (c.typ kept ≡ some a)
@@ -53,12 +43,12 @@ even (holds_func e f h) l = let k = ap length e in absurd (omega arith)
 even (holds_arg e f h) l = let k = ap length e in absurd (omega arith)
 even (holds_body e q f h) l = let k = ap length e in absurd (omega arith)
 
-pub odd_words : {c : Contents} {ws ss : List ℕ} {n : ℕ} {x : Point} → At c ws ss (Up n) x → length ws < 2 → ws ≡ []
+pub odd_words : {c : Contents} {ws ss : List ℕ} {n : ℕ} {x : Point} → At c ws ss (Some (Up n)) x → length ws < 2 → ws ≡ []
 odd_words (at_up e h) l = even h l
 
 module _ (th : Theory) (stack scratch places : ℕ) (s : State) (ws ss : List ℕ) (n : ℕ) where
   -- GOING DOWN
-  pub free_short : {x : Point} {k m : ℕ} → At s.contents ws ss (Down n) x → ((u : Tm) → s.contents.term n ≡ some u → ViewFree s.contents k m u)
+  pub free_short : {x : Point} {k m : ℕ} → At s.contents ws ss (Some (Down n)) x → ((u : Tm) → s.contents.term n ≡ some u → ViewFree s.contents k m u)
       → ((a : Ty) → s.contents.typ m ≡ some a → stack < length ws + nodes_ty a) → Stuck th stack scratch places s x
   free_short (at_down {t = u} e h) says short =
       let v = says u e in
@@ -67,7 +57,7 @@ module _ (th : Theory) (stack scratch places : ℕ) (s : State) (ws ss : List �
       let j = ap nodes_tm v.is in
       inl (inl (inl (omega arith)))
 
-  pub lambda_short : {x : Point} {m b : ℕ} → At s.contents ws ss (Down n) x → ((u : Tm) → s.contents.term n ≡ some u → ViewLambda s.contents m b u)
+  pub lambda_short : {x : Point} {m b : ℕ} → At s.contents ws ss (Some (Down n)) x → ((u : Tm) → s.contents.term n ≡ some u → ViewLambda s.contents m b u)
       → ((a : Ty) → s.contents.typ m ≡ some a → stack < length ws + nodes_ty a) → Stuck th stack scratch places s x
   lambda_short (at_down {t = u} e h) says short =
       let v = says u e in
@@ -77,14 +67,14 @@ module _ (th : Theory) (stack scratch places : ℕ) (s : State) (ws ss : List �
       inl (inl (inl (omega arith)))
 
   -- no place for what waits
-  pub wait_short : {x : Point} → At s.contents ws ss (Down n) x → stack < length ws + 2 → Stuck th stack scratch places s x
+  pub wait_short : {x : Point} → At s.contents ws ss (Some (Down n)) x → stack < length ws + 2 → Stuck th stack scratch places s x
   wait_short (at_down {t = u} e h) l = let i = stack_length h in let j = nodes_positive u in inl (inl (inl (omega arith)))
 
   -- no place in the scope
-  pub scope-short : {x : Point} → At s.contents ws ss (Down n) x → places < length ss + 1 → Stuck th stack scratch places s x
+  pub scope-short : {x : Point} → At s.contents ws ss (Some (Down n)) x → places < length ss + 1 → Stuck th stack scratch places s x
   scope-short (at_down {t = u} e h) l = let i = scope-length h in let j = nodes_positive u in inr (omega arith)
 
-  pub constant_short : {x : Point} {k as₁ : ℕ} → At s.contents ws ss (Down n) x → ((u : Tm) → s.contents.term n ≡ some u → ViewConstant s.contents k as₁ u)
+  pub constant_short : {x : Point} {k as₁ : ℕ} → At s.contents ws ss (Some (Down n)) x → ((u : Tm) → s.contents.term n ≡ some u → ViewConstant s.contents k as₁ u)
       → ((u : Tm) (v : ViewConstant s.contents k as₁ u) → Tight (stack - length ws) scratch (declared th v.name + nodes_tys v.args) s.left (nodes_of (const_at th v.name v.args)))
       → Stuck th stack scratch places s x
   constant_short {k = k} {as₁ = as₁} (at_down {t = u} {p = p} e h) says short =
@@ -100,10 +90,10 @@ module _ (th : Theory) (stack scratch places : ℕ) (s : State) (ws ss : List �
 
   -- GOING UP
   module _ (k kept : ℕ) (vs : List ℕ) (newest : ws ≡ k ∷ kept ∷ vs) where
-    pub argument_short : {x : Point} → At s.contents ws ss (Up n) x → stack < length vs + 2 → Stuck th stack scratch places s x
+    pub argument_short : {x : Point} → At s.contents ws ss (Some (Up n)) x → stack < length vs + 2 → Stuck th stack scratch places s x
     argument_short (at_up e h) l = let i = stack_length h in let j = ap length newest in inl (inl (inl (omega arith)))
 
-    pub function_short : {x : Point} {r : Wait} → ((w : Wait) → k ≡ code w → r ≡ w) → At s.contents ws ss (Up n) x → r ≡ Body
+    pub function_short : {x : Point} {r : Wait} → Decodes k r → At s.contents ws ss (Some (Up n)) x → r ≡ Body
         → ((c d : Ty) → s.contents.typ kept ≡ some c → s.contents.typ n ≡ some d → s.left < 3) → Stuck th stack scratch places s x
     function_short waits (at_up {a = a} e h) z short = of (rw z at (top h newest waits))
       where

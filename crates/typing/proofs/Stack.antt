@@ -6,9 +6,10 @@ use Rattle.hol.specs.Syntax.{Ty, Tm, arrow, Arrow}
 use Rattle.hol.specs.Theory.{Theory}
 use Rattle.hol.proofs.Tools.{some_same, none_some}
 use Rattle.store.specs.State.{Contents, Keeps}
-use Rattle.typing.specs.Machine.{Path, root, func_of, arg_of, body_of, scope, plug, around, code, Holds, holds_root, holds_func, holds_arg, holds_body}
-use Rattle.typing.specs.declared.turn.Wait.{Wait}
-use Rattle.typing.specs.declared.turn.Wait.TheVariants.{Function, Argument, Body}
+use Rattle.typing.specs.Machine.{Path, root, func_of, arg_of, body_of, scope, plug, around, Holds, holds_root, holds_func, holds_arg, holds_body}
+use Rattle.waits.specs.Codes.{code, Decodes}
+use Rattle.waits.specs.declared.Wait.{Wait}
+use Rattle.waits.specs.declared.Wait.TheVariants.{Function, Argument, Body}
 
 -- what the words hold stays
 pub holds_kept : {c d : Contents} {ws ss : List ℕ} {p : Path} → Keeps c d → Holds c ws ss p → Holds d ws ss p
@@ -64,7 +65,7 @@ pub data Top (c : Contents) (n : ℕ) (vs ss : List ℕ) : Wait → Path → Typ
   top-body : {a : Ty} {p : Path} {rs : List ℕ} → ss ≡ n ∷ rs → c.typ n ≡ some a → Holds c vs rs p → Top c n vs ss Body (body_of a p)
 
 pub top : {c : Contents} {ws ss : List ℕ} {p : Path} {k n : ℕ} {vs : List ℕ} {r : Wait} → Holds c ws ss p → ws ≡ k ∷ n ∷ vs
-    → ((w : Wait) → k ≡ code w → r ≡ w) → Top c n vs ss r p
+    → Decodes k r → Top c n vs ss r p
 top {k = k} {n = n} {vs = vs} (holds_root y z) e q = let l = ap length (sym y ∙ e) in absurd (omega arith)
 top {ws = ws} {k = k} {n = n} {vs = vs} (holds_func {vs = us} {n = m} f g h) e q =
     let i : k ≡ code Function = cc in

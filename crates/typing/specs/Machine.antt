@@ -1,6 +1,6 @@
 -- The machine that finds the type of a term: where it stands, and what one move does.
-use Rattle.std.specs.Prelude.{◌≡◌, ℕ, ◌+◌, ◌*◌, ◌<◌, ◌≤◌, max, ◌⊎◌, List, [], ◌∷◌}
-use Rattle.std.proofs.Math.Option.{Option, some, none}
+use Rattle.std.specs.Prelude.{◌≡◌, ℕ, ◌+◌, ◌*◌, ◌<◌, ◌≤◌, max, ◌⊎◌, List, [], ◌∷◌, Some, None, Option}
+use Rattle.std.proofs.Math.Option.{Option as Maybe, some, none}
 use Rattle.hol.specs.Base.{bind, option}
 use Rattle.hol.specs.Syntax.{Ty, Tm, fun}
 use Rattle.hol.specs.Theory.{Theory, const_of_decl, app_ty, type_in}
@@ -9,9 +9,9 @@ use Rattle.store.specs.State.{Contents, State, Grows}
 use Rattle.typing.specs.Built.{types_built}
 use Rattle.typing.specs.Typed.{Tight}
 use Rattle.typing.specs.declared.turn.Turn.{Turn}
-use Rattle.typing.specs.declared.turn.Turn.TheVariants.{Down, Up, End, Untyped}
-use Rattle.typing.specs.declared.turn.Wait.{Wait}
-use Rattle.typing.specs.declared.turn.Wait.TheVariants.{Function, Argument, Body}
+use Rattle.typing.specs.declared.turn.Turn.TheVariants.{Down, Up, End}
+use Rattle.waits.specs.Codes.{code}
+use Rattle.waits.specs.declared.Wait.TheVariants.{Function, Argument, Body}
 
 -- how many nodes the largest type of a constant has: of those that are declared, and of = and @ (9)
 abbrev pub widest : Theory → ℕ
@@ -36,7 +36,7 @@ scope (arg_of a p) = scope p
 scope (body_of a p) = a ∷ scope p
 
 -- the type of the whole, where the term at hand has the type o
-abbrev pub plug : Theory → Path → Option Ty → Option Ty
+abbrev pub plug : Theory → Path → Maybe Ty → Maybe Ty
 plug th root o = o
 plug th (func_of x p) o = plug th p (app_ty o (type_in th (scope p) x))
 plug th (arg_of a p) o = plug th p (app_ty (some a) o)
@@ -64,11 +64,6 @@ pending (arg_of a p) = 1 + pending p
 pending (body_of a p) = 1 + pending p
 
 -- The words of the stack, two for each step of a path: what waits, and the number that it keeps. The scope has one for each λ.
-abbrev pub code : Wait → ℕ
-code Function = 0
-code Argument = 1
-code Body = 2
-
 pub data Holds (c : Contents) : List ℕ → List ℕ → Path → Type 0 where
   holds_root : {ws ss : List ℕ} → ws ≡ [] → ss ≡ [] → Holds c ws ss root
   holds_func : {ws vs ss : List ℕ} {n : ℕ} {x : Tm} {p : Path} → ws ≡ code Function ∷ n ∷ vs → c.term n ≡ some x → Holds c vs ss p
@@ -85,7 +80,7 @@ pub data Point : Type 0 where
   end : Ty → Point
   untyped : Point
 
-abbrev pub outcome : Theory → Point → Option Ty
+abbrev pub outcome : Theory → Point → Maybe Ty
 outcome th (down p t) = plug th p (type_in th (scope p) t)
 outcome th (up p a) = plug th p (some a)
 outcome th (end a) = some a
@@ -109,15 +104,15 @@ moves (up p a) = pending p
 moves (end a) = 0
 moves untyped = 0
 
--- a turn, a stack's words and a scope's are this point
-pub data At (c : Contents) (ws ss : List ℕ) : Turn → Point → Type 0 where
-  at_down : {n : ℕ} {t : Tm} {p : Path} → c.term n ≡ some t → Holds c ws ss p → At c ws ss (Down n) (down p t)
-  at_up : {n : ℕ} {a : Ty} {p : Path} → c.typ n ≡ some a → Holds c ws ss p → At c ws ss (Up n) (up p a)
-  at_end : {n : ℕ} {a : Ty} → c.typ n ≡ some a → At c ws ss (End n) (end a)
-  at_untyped : At c ws ss Untyped untyped
+-- a turn, or none where there is no type, with a stack's words and a scope's, is this point
+pub data At (c : Contents) (ws ss : List ℕ) : Option Turn → Point → Type 0 where
+  at_down : {n : ℕ} {t : Tm} {p : Path} → c.term n ≡ some t → Holds c ws ss p → At c ws ss (Some (Down n)) (down p t)
+  at_up : {n : ℕ} {a : Ty} {p : Path} → c.typ n ≡ some a → Holds c ws ss p → At c ws ss (Some (Up n)) (up p a)
+  at_end : {n : ℕ} {a : Ty} → c.typ n ≡ some a → At c ws ss (Some (End n)) (end a)
+  at_untyped : At c ws ss None untyped
 
 -- one move from the point x came to this turn: the outcome is the same
-pub record Moved (th : Theory) (s t : State) (ws ss : List ℕ) (x : Point) (turn : Turn) : Type 0 where
+pub record Moved (th : Theory) (s t : State) (ws ss : List ℕ) (x : Point) (turn : Option Turn) : Type 0 where
   pub to : Point
   pub at : At t.contents ws ss turn to
   pub outcome : outcome th to ≡ outcome th x

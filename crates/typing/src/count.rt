@@ -13,13 +13,11 @@ pub fn has_count<S: Store>(store: &S, list: u64, count: u64) -> bool
     ensures { (bs : Tys) → (S.state store.now).contents.types list ≡ some bs → result ≡ (count_tys bs == count) }
 {
     let mut rest = list;
-    let mut left = count;
-    while let ListView::Cons(_, tail) = types_at(store, rest) {
-        if left == 0 {
+    for _ in 0..count {
+        let ListView::Cons(_, tail) = types_at(store, rest) else {
             return false;
-        }
-        left -= 1;
+        };
         rest = tail;
     }
-    left == 0
+    matches!(types_at(store, rest), ListView::Nil)
 }

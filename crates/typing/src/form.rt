@@ -17,16 +17,9 @@ pub fn function_type<S: Store>(store: &mut S, fun_name: u64, a: u64, b: u64) -> 
     ensures { (c d : Ty) → (S.state store.old).contents.word fun_name ≡ some w_fun → (S.state store.old).contents.typ a ≡ some c → (S.state store.old).contents.typ b ≡ some d → Answers ((S.state store.old).left < 3) (Made 3 (S.state store.old) (S.state store.new) (λ e n. e.typ n ≡ some (fun c d))) result }
 {
     let empty = store.empty();
-    let Some(second) = store.cons_type(b, empty) else {
-        return Err(NoRoom);
-    };
-    let Some(both) = store.cons_type(a, second) else {
-        return Err(NoRoom);
-    };
-    match store.type_named(fun_name, both) {
-        Some(n) => Ok(n),
-        None => Err(NoRoom),
-    }
+    let second = store.cons_type(b, empty).ok_or(NoRoom)?;
+    let both = store.cons_type(a, second).ok_or(NoRoom)?;
+    store.type_named(fun_name, both).ok_or(NoRoom)
 }
 
 // The type of an application, from the types of the function and of the argument; None where they do not fit.
@@ -36,14 +29,6 @@ pub fn apply_type<S: Store>(store: &mut S, f: u64, x: u64) -> Option<u64>
     ensures stays { Stays (S.state store.old) (S.state store.new) }
     ensures cases { (c d : Ty) → (S.state store.old).contents.typ f ≡ some c → (S.state store.old).contents.typ x ≡ some d → Finds (λ e n. (S.state store.new).contents.typ n ≡ some e) (app_ty (some c) (some d)) result }
 {
-    match arrow(store, f) {
-        Some(parts) => {
-            if store.same_type(parts.dom, x) {
-                Some(parts.cod)
-            } else {
-                None
-            }
-        }
-        None => None,
-    }
+    let parts = arrow(store, f)?;
+    store.same_type(parts.dom, x).then_some(parts.cod)
 }

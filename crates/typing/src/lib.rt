@@ -2,11 +2,9 @@
 #![tactic(auto)]
 
 mod count;
-mod first;
 pub mod form;
 pub mod infer;
 pub mod instance;
-mod lent;
 pub mod ok;
 mod scope;
 pub mod turn;

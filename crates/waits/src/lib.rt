@@ -11,7 +11,8 @@ pub enum Wait {
     Body,
 }
 
-// What waits, by the word that stands for it on a stack, `wait as u64`. Any other word stands for the last.
+// What waits, by the word that stands for it on a stack, `wait as u64`: lent memory is words, and cannot hold the enum itself. Any other
+// word stands for the last.
 impl From<u64> for Wait {
     ghost from_gives = { Decodes };
 

@@ -2,8 +2,6 @@
 pub mod Recognised
 -- a stack of words that stand for items still to be gone through
 pub mod Pending
--- the room of the words that a frame was made over
-pub mod Room
 -- going through a term by the terms right below it
 pub mod Passing
 -- looking for free variables is going through a term

@@ -1,12 +1,14 @@
--- A list of names in words: looking for a name in it, and putting one behind it.
-use Rattle.std.proofs.Common.{◌≡◌, ℕ, ◌+◌, ◌<◌, ◌≤◌, true, false, ◌||◌, List, [], ◌∷◌, length, get_or, take, drop, set, sym, refl, ap, ◌∙◌, arith}
+-- A list of names in words: looking for a name in it, and putting one on top of it.
+use Rattle.std.proofs.Common.{◌≡◌, ℕ, ◌+◌, ◌<◌, ◌≤◌, true, false, ◌||◌, List, [], ◌∷◌, length, get_or, drop, reverse, ◌++◌, append_assoc, length-append, Ok, Err, Result, sym, refl, ap, ◌∙◌, arith}
 use mathlib.Core.Option.{some}
-use Rattle.std.proofs.lemmas.List.{drop_more, drop_all, length-set, take-set, take-take, take_more_set}
+use Rattle.std.proofs.lemmas.List.{drop_more, drop_all, reverse-append, reverse-reverse}
 use Rattle.hol.specs.Base.{Word, same_word, among}
 use Rattle.hol.specs.Syntax.{insert}
 use Rattle.store.specs.State.{Contents, Keeps}
+use Rattle.lent.specs.Piles.{Pile, spare, Pushes}
+use Rattle.lent.specs.declared.NoRoom.{NoRoom}
 use Rattle.walk.specs.Standing.{done, more, Names}
-use Rattle.walk.specs.TypeVars.{Adds}
+use Rattle.walk.specs.TypeVars.{Adds, Gathers}
 use Rattle.walk.proofs.Pending.{stand_append, stand_kept}
 
 -- w is none of the first i of the words ns
@@ -46,44 +48,40 @@ begin_seeking c w {ws} h = record { rest = ws; names = h; same = refl }
 pub names_kept : {c d : Contents} → Keeps c d → {ns : List ℕ} {ws : List Word} → Names c ns ws → Names d ns ws
 names_kept k h = stand_kept k.word h
 
--- PUTTING A NAME BEHIND
-pub adds_none : (ns : List ℕ) (n : ℕ) → n ≤ length ns → Adds ns n ns n
-adds_none ns n l = record { len = refl; below = refl; low = omega arith; high = l }
+-- PUTTING A NAME ON TOP
+pub adds_none : {p : Pile} → Adds p p
+adds_none = record { added = []; held = refl; capacity = refl }
 
-pub adds_one : (ns : List ℕ) (n v : ℕ) → n < length ns → Adds ns n (set ns n v) (n + 1)
-adds_one ns n v l = record {
-  len = length-set ns n v;
-  below = take-set ns n v;
-  low = omega arith;
-  high = rw (length-set ns n v) (omega arith);
+pub adds_pushed : (n : ℕ) (p q : Pile) (r : Result (Unit {0}) NoRoom) → Pushes (n ∷ []) p q r → Adds p q
+adds_pushed n p q (Ok x) e = record { added = n ∷ []; held = e.0; capacity = e.1 }
+adds_pushed n p q (Err x) e = rw e.0 adds_none
+
+pub adds_trans : {p q r : Pile} → Adds p q → Adds q r → Adds p r
+adds_trans {p} {q} {r} a b = record {
+  added = b.added ++ a.added;
+  held = b.held ∙ (ap (λ ns. b.added ++ ns) a.held ∙ sym (append_assoc b.added a.added p.held));
+  capacity = b.capacity ∙ a.capacity;
 }
 
-pub adds_trans : {ns ms ls : List ℕ} {n m l : ℕ} → Adds ns n ms m → Adds ms m ls l → Adds ns n ls l
-adds_trans {ns} {ms} {ls} {n} {m} a b =
-    let x = a.low in
-    let y = b.low in
-    record {
-      len = b.len ∙ a.len;
-      below = sym (take-take n m ls x) ∙ (ap (take n) b.below ∙ (take-take n m ms x ∙ a.below));
-      low = omega arith;
-      high = b.high;
-    }
+pub adds_long : {p q : Pile} → Adds p q → length p.held ≤ length q.held
+adds_long {p} {q} a = omega (arith, ap length a.held, length-append a.added p.held)
 
--- as many as before count
-pub adds_back : {ns ms : List ℕ} {n m : ℕ} → Adds ns n ms m → Adds ns n ms n
-adds_back a = let x = a.low in let y = a.high in record {
-  len = a.len;
-  below = a.below;
-  low = omega arith;
-  high = omega arith;
-}
+-- the words of a stack, the oldest first
+pub listed : (c : Contents) {ns ms : List ℕ} {ws : List Word} → reverse ms ≡ ns → Names c (reverse ns) ws → Names c ms ws
+listed c {ms = ms} e h = rw (← e, reverse-reverse ms) at h
 
-module _ {c d : Contents} (k : Keeps c d) (w : Word) {ws : List Word} (ns : List ℕ) (n : ℕ) (h : Names c (take n ns) ws) where
+module _ {c d : Contents} (k : Keeps c d) (w : Word) {ws : List Word} (ns : List ℕ) (h : Names c (reverse ns) ws) where
   -- a name that is there
-  pub put-known : among w ws ≡ true → Names d (take n ns) (insert w ws)
+  pub put-known : among w ws ≡ true → Names d (reverse ns) (insert w ws)
   put-known t = rw t (names_kept k h)
 
   -- a new name
-  pub put_new : n < length ns → (v : ℕ) → c.word v ≡ some w → among w ws ≡ false
-      → Names d (take (n + 1) (set ns n v)) (insert w ws)
-  put_new l v e f = rw (f, take_more_set ns n v l) (stand_append (names_kept k h) (more (k.word v w e) done))
+  pub put_new : (v : ℕ) → c.word v ≡ some w → among w ws ≡ false → {ms : List ℕ} → ms ≡ v ∷ ns → Names d (reverse ms) (insert w ws)
+  put_new v e f b = rw (f, b, reverse-append (v ∷ []) ns) (stand_append (names_kept k h) (more (k.word v w e) done))
+
+-- a new name, if there is a place for it
+pub put_all : {c d : Contents} → Keeps c d → (w : Word) {ws : List Word} (p q : Pile) → Names c (reverse p.held) ws → (v : ℕ)
+    → c.word v ≡ some w → among w ws ≡ false → (r : Result (Unit {0}) NoRoom) → Pushes (v ∷ []) p q r
+    → Gathers (spare p < 1) d (insert w ws) p q r
+put_all k w p q h v e f (Ok x) b = put_new k w p.held h v e f b.0
+put_all k w p q h v e f (Err x) b = (b.0, omega (arith, b.1))

@@ -3,7 +3,7 @@ use Rattle.std.proofs.Common.{◌≡◌, ℕ, ◌+◌, ◌<◌, ◌≤◌, List,
 use mathlib.Core.Option.{some}
 use Rattle.hol.specs.Base.{Word}
 use Rattle.hol.specs.Syntax.{Ty, Tys, Tm, fvar, bvar, const, app, lam}
-use Rattle.stack.specs.Frames.{onto}
+use Rattle.lent.specs.Piles.{onto}
 use Rattle.store.specs.Measures.{nodes_tm}
 use Rattle.store.specs.State.{Contents}
 use Rattle.store.specs.Views.{TermSays}

@@ -6,7 +6,7 @@ use Rattle.std.proofs.Common.{◌≡◌, ℕ, ◌+◌, ◌<◌, ◌≤◌, List,
 use mathlib.Core.Option.{Option, some}
 use Rattle.hol.specs.Base.{option}
 use Rattle.hol.proofs.Tools.{some_same}
-use Rattle.stack.specs.Frames.{onto}
+use Rattle.lent.specs.Piles.{onto}
 use Rattle.walk.specs.Standing.{Stand, done, more}
 
 -- one item after the other

@@ -1,5 +1,5 @@
 -- Shapes: a name is tested, then a list of types for its length.
-use Rattle.std.proofs.Common.{◌≡◌, Bool, true, false, Some, None, Option, sym, refl}
+use Rattle.std.proofs.Common.{◌≡◌, Bool, true, false, Some, Option, sym, refl}
 use mathlib.Core.Option.{Option as Found, some, none}
 use Rattle.hol.specs.Base.{Word, guard, same_word}
 use Rattle.hol.specs.Syntax.{tyapp, Tys, tnil, tcons, const, w_eq, w_fun, arrow}
@@ -25,9 +25,6 @@ arrow_named w (tcons a (tcons b (tcons d ds))) = sym (guard_none _)
 pub like_taken : {A B : Type 0} (R : A → B → Type 0) (o p : Found A) (b : Bool) (r : Option B) → o ≡ guard b p → true ≡ b
     → Like R p r → Like R o r
 like_taken R o p b r e t l = rw (e, ← t) l
-
-pub like_left : {A B : Type 0} (R : A → B → Type 0) (o p : Found A) (b : Bool) → o ≡ guard b p → false ≡ b → Like R o None
-like_left R o p b e f = rw (e, ← f) tt
 
 -- what the code found is what the definition has
 pub like_some : {A B : Type 0} (R : A → B → Type 0) (o : Found A) (y : B) → Like R o (Some y) → (x : A) × R x y

@@ -1,5 +1,5 @@
 -- Gathering type variables by going through a term: first those in its own node, then those of the terms right below.
-use Rattle.std.proofs.Common.{◌≡◌, ℕ, ◌+◌, ◌-◌, ◌<◌, ◌≤◌, List, [], ◌∷◌, length, take, Some, Result, sym, ap, ◌∙◌, arith}
+use Rattle.std.proofs.Common.{◌≡◌, ℕ, ◌+◌, ◌<◌, ◌≤◌, List, [], ◌∷◌, length, reverse, Some, sym, ap, ◌∙◌, arith}
 use mathlib.Core.Option.{some}
 use Rattle.hol.specs.Base.{Word}
 use Rattle.hol.specs.Syntax.{Tm, fvar, bvar, const, app, lam, tyvars_tm}
@@ -8,16 +8,14 @@ use Rattle.store.specs.State.{Contents, Keeps}
 use Rattle.store.specs.Views.{TermSays}
 use Rattle.store.specs.declared.view.TermView.{TermView}
 use Rattle.store.specs.declared.view.TermView.TheVariants.{Free, Bound, Constant, Apply, Lambda}
-use Rattle.stack.specs.Frames.{held, onto, capacity, Within}
-use Rattle.stack.specs.declared.frame.Frame.{Frame}
-use Rattle.lent.specs.declared.NoRoom.{NoRoom}
+use Rattle.lent.specs.Piles.{Pile, onto}
 use Rattle.walk.specs.Below.{below}
 use Rattle.walk.specs.Standing.{Names, more}
-use Rattle.walk.specs.TypeVars.{Adds, Gathers, Short, own_tyvars, own_nodes}
+use Rattle.walk.specs.TypeVars.{Adds, own_tyvars, own_nodes}
 use Rattle.walk.proofs.Gathering.{Gathering, names_length}
 use Rattle.walk.proofs.Lengths.{type_length, types-length}
+use Rattle.walk.proofs.NameLists.{adds_long}
 use Rattle.walk.proofs.Passing.{nodes_positive}
-use Rattle.walk.proofs.Room.{room-above}
 use Rattle.walk.proofs.Pending.{Turn, load, newest, turned, falls, words_fit, room_for, kept, kept-load}
 
 own_within : (t : Tm) → own_nodes t ≤ nodes_tm t
@@ -80,31 +78,30 @@ gone c (Lambda a b) h s e f l =
     }
 
 -- the newest word n stands for a term with the view v
-module _ (c : Contents) {goal : List Word} {bound : ℕ} {ws ns : List ℕ} {n : ℕ} {ms : List ℕ} {m : ℕ}
-    (h : Gathering c c.term tyvars_tm nodes_tm goal bound ws ms m) (q : ws ≡ n ∷ ns) (v : TermView)
+module _ (c : Contents) {goal : List Word} {bound : ℕ} {ws ns : List ℕ} {n : ℕ} (f : Pile)
+    (h : Gathering c c.term tyvars_tm nodes_tm goal bound ws f.held) (q : ws ≡ n ∷ ns) (v : TermView)
     (says : (t : Tm) → c.term n ≡ some t → TermSays c t (Some v)) where
   -- it stands for one
   pub viewed : (t : Tm) × TermSays c t (Some v)
   viewed = let (t, e) = newest h.pending q in (t, says t e)
 
   -- room for the types of its own node
-  pub own_fits : (t : Tm) × TermSays c t (Some v) × (m + (own_nodes t + length ns) ≤ bound)
+  pub own_fits : (t : Tm) × TermSays c t (Some v) × (length f.held + (own_nodes t + length ns) ≤ bound)
   own_fits =
       let (t, e) = newest h.pending q in
       (t, says t e, (let l = room_for h.pending q t e nodes_positive in let k = own_within t in omega arith))
 
   -- its own type variables were gathered
-  module _ {d : Contents} (k : Keeps c d) (l : m ≤ length ms) {ms' : List ℕ} {m' : ℕ} (a : Adds ms m ms' m')
-      (own : (t : Tm) → TermSays c t (Some v) → Names d (take m' ms') (own_tyvars t h.gathered)) where
+  module _ {d : Contents} (k : Keeps c d) {g : Pile} (a : Adds f g)
+      (own : (t : Tm) → TermSays c t (Some v) → Names d (reverse g.held) (own_tyvars t h.gathered)) where
     turn : (t : Tm) → TermSays c t (Some v)
-        → Turn c.term tyvars_tm nodes_tm t (below v) h.gathered (own_tyvars t h.gathered) m m'
-    turn t s = gone c v s h.gathered (sym (names_length c ms m l h.names)) (sym (names_length d ms' m' a.high (own t s)))
-        a.low
+        → Turn c.term tyvars_tm nodes_tm t (below v) h.gathered (own_tyvars t h.gathered) (length f.held) (length g.held)
+    turn t s = gone c v s h.gathered (sym (names_length c f.held h.names)) (sym (names_length d g.held (own t s))) (adds_long a)
 
-    pub term_fits : m' + (length ns + length (below v)) ≤ bound
+    pub term_fits : length g.held + (length ns + length (below v)) ≤ bound
     term_fits = let (t, e) = newest h.pending q in words_fit h.pending q t e (turn t (says t e)) nodes_positive
 
-    pub term_turned : {vs : List ℕ} → vs ≡ onto (below v) ns → Gathering d d.term tyvars_tm nodes_tm goal bound vs ms' m'
+    pub term_turned : {vs : List ℕ} → vs ≡ onto (below v) ns → Gathering d d.term tyvars_tm nodes_tm goal bound vs g.held
     term_turned b =
         let (t, e) = newest h.pending q in
         record {
@@ -118,10 +115,3 @@ module _ (c : Contents) {goal : List Word} {bound : ℕ} {ws ns : List ℕ} {n :
         let (t, e) = newest h.pending q in
         rw (kept-load k.term (turned h.pending q t e (turn t (says t e)) b))
         (falls h.pending q t e (turn t (says t e)) b)
-
--- an answer about the term t, in the room above the frame f, is one about u, which is t
-pub own_gathered : {X : Type 0} (f : Frame) → Within f → (u t : Tm) → u ≡ t
-    → (places : ℕ) (c : Contents) (ws : List Word) (n : ℕ) (ms : List ℕ) (m : ℕ) (r : Result X NoRoom)
-    → Gathers (Short (length f.words.now - f.top.now) places (own_nodes t)) c (own_tyvars t ws) n ms m r
-    → Gathers (Short (capacity f - length (held f)) places (own_nodes u)) c (own_tyvars u ws) n ms m r
-own_gathered f w u t e places c ws n ms m r h = rw (e, ← room-above f w) h

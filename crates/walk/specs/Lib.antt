@@ -6,3 +6,5 @@ pub mod Below
 pub mod Standing
 -- type variables gathered into a list of names
 pub mod TypeVars
+-- the first type of a list, opened
+pub mod Firsts

@@ -1,13 +1,15 @@
 // Lists of names in words.
-ghost use Rattle.std.specs.Prelude.{◌≡◌, ◌-◌, ◌<◌, ◌≤◌, List, length, take};
+ghost use Rattle.std.specs.Prelude.{◌≡◌, ◌<◌, List, reverse};
 ghost use Rattle.std.proofs.Math.Option.{some};
 ghost use Rattle.hol.specs.Base.{Word, among};
 ghost use Rattle.hol.specs.Syntax.{insert};
 ghost use Rattle.store.specs.State.{Stays};
+ghost use Rattle.lent.specs.Piles.{spare};
 ghost use Rattle.walk.specs.Standing.{Names};
 ghost use Rattle.walk.specs.TypeVars.{Adds, Gathers};
 
 use lent::NoRoom;
+use lent::stack::Stack;
 use store::Store;
 
 // Whether a name is one of these.
@@ -23,25 +25,14 @@ pub fn among<S: Store>(store: &mut S, name: u64, names: &[u64]) -> bool
     false
 }
 
-// Puts a name behind the first `count` of `names`, unless it is one of them.
-pub fn insert<S: Store>(
-    store: &mut S,
-    names: &mut [u64],
-    count: &mut usize,
-    name: u64,
-) -> Result<(), NoRoom>
-    requires { count.old ≤ length names.old }
+// Puts a name on top of the others, unless it is one of them.
+pub fn insert<S: Store>(store: &mut S, names: &mut Stack<'_>, name: u64) -> Result<(), NoRoom>
     ensures stays { Stays (S.state store.old) (S.state store.new) }
-    ensures adds { Adds names.old count.old names.new count.new }
-    ensures cases { (w : Word) (ws : List Word) → (S.state store.old).contents.word name ≡ some w → Names (S.state store.old).contents (take count.old names.old) ws → Gathers (length names.old - count.old < 1) (S.state store.new).contents (insert w ws) count.old names.new count.new result }
+    ensures adds { Adds names.old names.new }
+    ensures cases { (w : Word) (ws : List Word) → (S.state store.old).contents.word name ≡ some w → Names (S.state store.old).contents (reverse names.old.held) ws → Gathers (spare names.old < 1) (S.state store.new).contents (insert w ws) names.old names.new result }
 {
-    if among(store, name, &names[0..*count]) {
+    if among(store, name, names.as_slice()) {
         return Ok(());
     }
-    if *count >= names.len() {
-        return Err(NoRoom);
-    }
-    names[*count] = name;
-    *count += 1;
-    Ok(())
+    names.push(name)
 }

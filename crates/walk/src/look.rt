@@ -1,8 +1,8 @@
 // Views of numbers that stand for something: there is always one.
-ghost use Rattle.std.specs.Prelude.{◌≡◌, Some};
+ghost use Rattle.std.specs.Prelude.{◌≡◌, List, Some};
 ghost use Rattle.std.proofs.Math.Option.{some};
 ghost use Rattle.hol.specs.Syntax.{Ty, Tys, Tm};
-ghost use Rattle.store.specs.Views.{TypeSays, TypesSays, TermSays};
+ghost use Rattle.store.specs.Views.{TypeSays, TypesSays, TermSays, TermsSays};
 
 use store::Store;
 use store::view::{ListView, TermView, TypeView};
@@ -35,6 +35,17 @@ pub fn term_at<S: Store>(store: &S, n: u64) -> TermView
     ensures { (t : Tm) → (S.state store.now).contents.term n ≡ some t → TermSays (S.state store.now).contents t (Some result) }
 {
     match store.view_term(n) {
+        Some(view) => view,
+        None => unreachable(),
+    }
+}
+
+// The first term of the list and the rest, or that it is empty.
+pub fn terms_at<S: Store>(store: &S, n: u64) -> ListView
+    requires { (us : List Tm) × ((S.state store.now).contents.terms n ≡ some us) }
+    ensures { (us : List Tm) → (S.state store.now).contents.terms n ≡ some us → TermsSays (S.state store.now).contents us (Some result) }
+{
+    match store.view_terms(n) {
         Some(view) => view,
         None => unreachable(),
     }

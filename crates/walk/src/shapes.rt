@@ -54,10 +54,10 @@ fn two_types<S: Store>(store: &S, list: u64) -> Option<FunctionType>
 {
     match types_at(store, list) {
         ListView::Nil => None,
-        ListView::Cons(dom, rest) => match only_type(store, rest) {
-            Some(cod) => Some(FunctionType { dom, cod }),
-            None => None,
-        },
+        ListView::Cons(dom, rest) => {
+            let cod = only_type(store, rest)?;
+            Some(FunctionType { dom, cod })
+        }
     }
 }
 
@@ -67,14 +67,8 @@ pub fn arrow<S: Store>(store: &S, a: u64) -> Option<FunctionType>
     ensures { (b : Ty) → (S.state store.now).contents.typ a ≡ some b → Like (IsFunctionType (S.state store.now).contents) (arrow b) result }
 {
     match type_at(store, a) {
-        TypeView::Variable(_) => None,
-        TypeView::Named(name, args) => {
-            if is_named(store, name, b"->") {
-                two_types(store, args)
-            } else {
-                None
-            }
-        }
+        TypeView::Named(name, args) if is_named(store, name, b"->") => two_types(store, args),
+        _ => None,
     }
 }
 
@@ -84,13 +78,7 @@ fn equality<S: Store>(store: &S, t: u64) -> Option<u64>
     ensures { (u : Tm) → (S.state store.now).contents.term t ≡ some u → Like (IsType (S.state store.now).contents) (eq_of u) result }
 {
     match term_at(store, t) {
-        TermView::Constant(name, args) => {
-            if is_named(store, name, b"=") {
-                only_type(store, args)
-            } else {
-                None
-            }
-        }
+        TermView::Constant(name, args) if is_named(store, name, b"=") => only_type(store, args),
         _ => None,
     }
 }

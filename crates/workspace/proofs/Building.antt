@@ -5,8 +5,8 @@ use Rattle.hol.specs.Syntax.{Ty, Tm, equal, tnil}
 use Rattle.store.specs.State.{State}
 use Rattle.store.specs.Builds.{Made, IsTypes, IsConst, IsApp}
 use Rattle.store.proofs.Growth.{grows_on}
-use Rattle.workspace.specs.Grounds.{Grounded}
-use Rattle.workspace.specs.declared.ground.Ground.{Ground}
+use Rattle.theory.specs.Grounds.{Grounded}
+use Rattle.theory.specs.declared.ground.Ground.{Ground}
 
 pub equal-made : {s₀ s₁ s₂ s₃ s₄ : State} {g : Ground} {a x y n k₁ k₂ k₃ k₄ : ℕ} {b : Ty} {u v : Tm}
     → Made 1 s₀ s₁ (IsTypes a n) k₁ → Made 1 s₁ s₂ (IsConst g.equality k₁) k₂ → Made 1 s₂ s₃ (IsApp k₂ x) k₃ → Made 1 s₃ s₄ (IsApp k₃ y) k₄

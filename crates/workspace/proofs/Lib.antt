@@ -1,4 +1,4 @@
--- answers turned into options, with the flag
+-- answers that tell want of room from there being nothing
 pub mod Serving
 -- looking for a free variable in a list
 mod Freeness

@@ -1,92 +1,104 @@
--- Answers turned into options: what the flag and the option say together.
-use Rattle.std.proofs.Common.{◌≡◌, ℕ, ◌+◌, ◌-◌, ◌*◌, ◌<◌, ◌≤◌, Bool, true, false, ◌⊎◌, Some, None, Option, Result, sym, ◌∙◌, inl, inr, arith}
-use mathlib.Core.Option.{Option as Maybe, some, none}
+-- Answers that tell want of room from there being nothing, and what was short for a part of a call is short for the whole.
+use Rattle.std.proofs.Common.{◌≡◌, ℕ, ◌+◌, ◌*◌, ◌<◌, ◌≤◌, Bool, true, ◌≢◌, false, ◌⊎◌, Some, None, Ok, Err, Option, Result, refl, ap, ◌∙◌, inl, inr, arith}
+use Rattle.std.specs.Result.{IsErrAnd}
+use Rattle.std.specs.Option.{ok_or}
+use Rattle.std.proofs.lemmas.Result.{err_from_is_err_and}
+use mathlib.Core.Option.{Option as Maybe, none, some}
 use Rattle.hol.specs.Syntax.{Ty, w_eq}
 use Rattle.hol.specs.Theory.{Theory}
-use Rattle.store.specs.State.{Contents, State, Grows}
-use Rattle.store.specs.Builds.{Builds, Made, Full}
-use Rattle.store.proofs.Growth.{grows_on, grows-more}
+use Rattle.store.specs.State.{State, Grows}
+use Rattle.store.specs.Builds.{Made}
 use Rattle.lent.specs.Answers.{Answers}
-use Rattle.lent.specs.declared.NoRoom.{NoRoom}
+use Rattle.lent.specs.declared.NoRoom.{NoRoom as Lent}
 use Rattle.typing.specs.Typed.{Tight, Typed}
 use Rattle.typing.specs.Machine.{Cramped, widest}
 use Rattle.typing.proofs.Sizes.{declared-fits}
-use Rattle.workspace.specs.Space.{Lacks, Makes, Does, done, undone, Serves, served, nothing, unserved, Tests, passed, failed, untested, Rooms, Keeping, Founds, Holdings}
+use Rattle.workspace.specs.declared.refusal.Refusal.{Refusal}
+use Rattle.workspace.specs.declared.refusal.Refusal.TheVariants.{Unfit, NoRoom}
+use Rattle.workspace.specs.Refusals.{Lacks, Serves, served, nothing, unserved, Tests, passed, failed, untested}
+
+-- what comes of a want of room that is handed on
+pub no_room : {T : Type 0} (r : Result T Refusal) → IsErrAnd r (λ y. y ≡ NoRoom) → r ≡ Err NoRoom
+no_room r h = let (y, e, q) = err_from_is_err_and r h in e ∙ ap Err q
+
+abbrev fault : {T : Type 0} → Result T Refusal → Refusal
+fault (Ok x) = NoRoom
+fault (Err e) = e
+
+-- what comes of a part that is not there
+pub misfit : {T X : Type 0} {e : Refusal} {o : Option X} (r : Result T Refusal) → IsErrAnd r (λ y. y ≡ e) → Err e ≡ ok_or o Unfit → o ≡ None → r ≡ Err Unfit
+misfit {X = X} {e = e} {o = o} r h v n =
+    let (y, is, same) = err_from_is_err_and r h in
+    let q : ◌≡◌ {A = Result X Refusal} (Err e) (Err Unfit) = v ∙ ap (λ p. ok_or p Unfit) n in
+    is ∙ ap Err (same ∙ ap fault q)
 
 -- what is short for less is short for more
 pub lacks_more : {w m n l a b : ℕ} → m ≤ n → a ≤ b → Lacks w m l a → Lacks w n l b
 lacks_more h k (inl x) = inl (omega arith)
 lacks_more h k (inr x) = inr (omega arith)
 
--- a number that a store gave
-pub keeping : {n : ℕ} {s t : State} {lacks : Type 0} {Q : ℕ → Type 0} (P : Contents → ℕ → Type 0) (r o : Option ℕ) (f g : Bool)
-    → Keeping r f g o → f ≡ false → Builds n s t P r → (Full n s t → lacks) → ((k : ℕ) → Made n s t P k → Q k) → Does lacks Q g o
-keeping P r (Some x) f g k e b no₁ yes₁ = done (yes₁ x (rw k.0 at b)) (k.1 ∙ e)
-keeping P r None f g k e b no₁ yes₁ = undone (no₁ (rw k.0 at b)) k.1
+-- what was short after so much was spent, out of the same number of words
+pub lacks_after : (w v m n l k a b : ℕ) → v ≡ w → m ≤ n → k + a ≤ l + b → Lacks v m l a → Lacks w n k b
+lacks_after w v m n l k a b e p q (inl x) = inl (omega arith)
+lacks_after w v m n l k a b e p q (inr x) = inr (omega arith)
 
--- a number that was made
-pub making : {n : ℕ} {s t : State} {lacks : Type 0} {Q : ℕ → Type 0} (P : Contents → ℕ → Type 0) (r o : Option ℕ) (f g : Bool)
-    → Keeping r f g o → f ≡ false → Makes n s t P r → (s.left < n → lacks) → ((k : ℕ) → Made n s t P k → Q k) → Does lacks Q g o
-making P r (Some x) f g k e b no₁ yes₁ = done (yes₁ x (rw k.0 at b)) (k.1 ∙ e)
-making P r None f g k e b no₁ yes₁ = undone (no₁ (rw k.0 at b)) k.1
+-- a refusal that is handed on, of a call and of a test
+pub refused : {A B X Y : Type 0} {lacks lacks₁ kept kept₁ : Type 0} {P : A → X → Type 0} {Q : B → Y → Type 0} {o : Maybe A} {q : Maybe B} (e : Refusal)
+    → Serves lacks kept P o (Err e) → (lacks → lacks₁) → (kept → kept₁) → (o ≡ none → q ≡ none) → Serves lacks₁ kept₁ Q q (Err e)
+refused Unfit (nothing k e) f h j = nothing (h k) (j e)
+refused NoRoom (unserved l) f h j = unserved (f l)
 
--- a number that a call answered
-pub rooming : {lacks : Type 0} {Q : ℕ → Type 0} (short : Type 0) (P : ℕ → Type 0) (r : Result ℕ NoRoom) (o : Option ℕ) (f g : Bool)
-    → Rooms r f g o → f ≡ false → Answers short P r → (short → lacks) → ((k : ℕ) → P k → Q k) → Does lacks Q g o
-rooming short P r (Some x) f g k e b no₁ yes₁ = done (yes₁ x (rw k.0 at b)) (k.1 ∙ e)
-rooming short P r None f g k e b no₁ yes₁ = undone (no₁ (rw k.0.1 at b)) k.1
+pub unfit : {B Y : Type 0} {lacks lacks₁ kept : Type 0} {Q : B → Y → Type 0} {b : Bool} {q : Maybe B} (e : Refusal)
+    → Tests lacks b (Err e) → (lacks → lacks₁) → kept → (b ≡ false → q ≡ none) → Serves lacks₁ kept Q q (Err e)
+unfit Unfit (failed e) f k j = nothing k (j e)
+unfit NoRoom (untested l) f k j = unserved (f l)
 
--- a type that a call found, or nothing
-pub finding : {lacks kept : Type 0} {Q : Ty → ℕ → Type 0} {a : Maybe Ty} (short : Type 0) (n : ℕ) (s t : State) (r : Result (Option ℕ) NoRoom) (o : Option ℕ) (f g : Bool)
-    → Founds r f g o → f ≡ false → Answers short (Typed n s t a) r → (short → lacks) → (a ≡ none → Grows n s t → kept)
-    → ((b : Ty) (k : ℕ) → a ≡ some b → Made n s t (λ c i. c.typ i ≡ some b) k → Q b k) → Serves lacks kept Q a g o
-finding short n s t r (Some x) f g k e b no₁ same yes₁ =
-    let h = rw k.0 at b in
-    let j = h.finds in
-    served j.what j.is (yes₁ _ x j.is (record { grows = h.grows; stands = j.stands })) (k.1 ∙ e)
-finding short n s t r None f g (inl k) e b no₁ same yes₁ =
-    let h = rw k.0 at b in
-    nothing (same h.finds h.grows) h.finds (k.1 ∙ e)
-finding short n s t r None f g (inr k) e b no₁ same yes₁ = unserved (no₁ (rw k.0.1 at b)) k.1
+pub untested_too : {lacks lacks₁ : Type 0} {b d : Bool} (e : Refusal) → Tests lacks b (Err e) → (lacks → lacks₁) → (b ≡ false → d ≡ false) → Tests lacks₁ d (Err e)
+untested_too Unfit (failed e) f j = failed (j e)
+untested_too NoRoom (untested l) f j = untested (f l)
 
--- a test
-pub testing : {lacks : Type 0} {t : Bool} (short : Type 0) (r : Result Bool NoRoom) (o : Option Unit) (f g : Bool)
-    → Holdings r f g o → f ≡ false → Answers short (λ x. x ≡ t) r → (short → lacks) → Tests lacks t g o
-testing short r (Some x) f g k e b no₁ = passed (sym (rw k.0 at b)) (k.1 ∙ e)
-testing short r None f g (inl k) e b no₁ = failed (sym (rw k.0 at b)) (k.1 ∙ e)
-testing short r None f g (inr k) e b no₁ = untested (no₁ (rw k.0.1 at b)) k.1
+-- a call that refuses is a test that is not passed
+pub not_passed : {A X : Type 0} {lacks kept : Type 0} {P : A → X → Type 0} {o : Maybe A} {b : Bool} (e : Refusal)
+    → Serves lacks kept P o (Err e) → (o ≡ none → b ≡ false) → Tests lacks b (Err e)
+not_passed Unfit (nothing k e) j = failed (j e)
+not_passed NoRoom (unserved l) j = untested l
 
--- what a store gave where it gave k
-pub made_of : {n : ℕ} {s t : State} {P : Contents → ℕ → Type 0} {r : Option ℕ} {k : ℕ} → Builds n s t P r → r ≡ Some k → Made n s t P k
-made_of b e = rw e at b
+-- what became of the store, where room was not short
+pub kept_of : {A X Y : Type 0} {lacks kept : Type 0} {P : A → X → Type 0} {o : Maybe A} (e : Refusal)
+    → Serves lacks kept P o (Err e) → ◌≢◌ {A = Result Y Refusal} (Err e) (Err NoRoom) → kept
+kept_of Unfit (nothing k e) n = k
+kept_of NoRoom (unserved l) n = absurd (n refl)
 
--- the last node of several
-pub last_made : {n m k : ℕ} {s t u : State} (P Q : Contents → ℕ → Type 0) (r : Option ℕ)
-    → Grows n s t → Builds m t u P r → n + m ≤ k → ((i : ℕ) → Made m t u P i → Q u.contents i) → Makes k s u Q r
-last_made P Q (Some x) h b l f = record { grows = grows-more l (grows_on h b.grows); stands = f x b }
-last_made P Q None h b l f = omega (arith, h.cost, b.short)
+-- an answer that goes on
+pub answers_on : {X : Type 0} {short lacks : Type 0} {P Q : X → Type 0} (r : Result X Lent) → Answers short P r → (short → lacks)
+    → ((x : X) → P x → Q x) → Answers lacks Q r
+answers_on (Ok x) h f k = k x h
+answers_on (Err e) h f k = f h
 
--- WHAT A CALL LACKED, with the whole slice as its stack: a word for each node, four, or five
-pub lacks_one : {w m l a : ℕ} → (w - 0 < m) ⊎ (l < a) → Lacks w m l a
+-- a type that was found, or none
+pub finding : {lacks kept : Type 0} {Q : Ty → ℕ → Type 0} {a : Maybe Ty} (n : ℕ) (s t : State) (o : Option ℕ) → Typed n s t a o
+    → (a ≡ none → Grows n s t → kept)
+    → ((b : Ty) (k : ℕ) → a ≡ some b → Made n s t (λ c i. c.typ i ≡ some b) k → Q b k) → Serves lacks kept Q a (ok_or o Unfit)
+finding n s t (Some x) h same yes₁ = let j = h.finds in served j.what j.is (yes₁ _ x j.is (record { grows = h.grows; stands = j.stands }))
+finding n s t None h same yes₁ = nothing (same h.finds h.grows) h.finds
+
+-- WHAT A CALL LACKED, with the whole slice as its stack: a word for each node, or four
+pub lacks_one : {w m l a : ℕ} → (w < m) ⊎ (l < a) → Lacks w m l a
 lacks_one (inl x) = inl (omega arith)
 lacks_one (inr x) = inr x
 
-pub lacks_four : (m : ℕ) {w l a : ℕ} → (w - 0 < 4 * m) ⊎ (l < a) → Lacks w m l a
+pub lacks_four : (m : ℕ) {w l a : ℕ} → (w < 4 * m) ⊎ (l < a) → Lacks w m l a
 lacks_four m (inl x) = inl (omega arith)
 lacks_four m (inr x) = inr x
 
-pub lacks_five : (m : ℕ) {w l a : ℕ} → (w - 0 < 5 * m) ⊎ (l < a) → Lacks w m l a
-lacks_five m (inl x) = inl (omega arith)
-lacks_five m (inr x) = inr x
-
 -- with the slice in two parts
-pub lacks_tight : (w a b n m l c : ℕ) → w ≤ 2 * a + 1 → w ≤ 2 * b + 1 → n ≤ m → 1 ≤ m → Tight (a - 0) b n l c → Lacks w m l c
+pub lacks_tight : (w a b n m l c : ℕ) → w ≤ 2 * a + 1 → w ≤ 2 * b + 1 → n ≤ m → 1 ≤ m → Tight a b n l c → Lacks w m l c
 lacks_tight w a b n m l c p q r o (inl (inl x)) = inl (omega arith)
 lacks_tight w a b n m l c p q r o (inl (inr x)) = inl (omega arith)
 lacks_tight w a b n m l c p q r o (inr x) = inr x
 
 -- with the slice in three parts
-pub lacks_cramped : (w a b s n d l c : ℕ) → w ≤ 3 * a + 2 → w ≤ 3 * b + 2 → w ≤ 3 * s + 2 → 1 ≤ n → Cramped (a - 0) b (s - 0) n d l c → Lacks w (n + d) l c
+pub lacks_cramped : (w a b s n d l c : ℕ) → w ≤ 3 * a + 2 → w ≤ 3 * b + 2 → w ≤ 3 * s + 2 → 1 ≤ n → Cramped a b s n d l c → Lacks w (n + d) l c
 lacks_cramped w a b s n d l c p q r o (inl (inl (inl x))) = inl (omega arith)
 lacks_cramped w a b s n d l c p q r o (inl (inl (inr x))) = inl (omega arith)
 lacks_cramped w a b s n d l c p q r o (inl (inr x)) = inr x
@@ -96,17 +108,5 @@ lacks_cramped w a b s n d l c p q r o (inr x) = inl (omega arith)
 pub widest_positive : (th : Theory) → 1 ≤ widest th
 widest_positive th = omega (arith, declared-fits th w_eq)
 
--- what was short after so much was spent, out of the same number of words
-pub lacks_after : (w v m n l k a b : ℕ) → v ≡ w → m ≤ n → k + a ≤ l + b → Lacks v m l a → Lacks w n k b
-lacks_after w v m n l k a b e p q (inl x) = inl (omega arith)
-lacks_after w v m n l k a b e p q (inr x) = inr (omega arith)
-
--- BY THE ANSWER
-pub done_of : {X : Type 0} {lacks : Type 0} {P : X → Type 0} {full : Bool} {x : X} → Does lacks P full (Some x) → P x × (full ≡ false)
-done_of (done p e) = (p, e)
-
-pub undone_of : {X : Type 0} {lacks : Type 0} {P : X → Type 0} {full : Bool} → Does lacks P full None → lacks × (full ≡ true)
-undone_of (undone l e) = (l, e)
-
-pub passed_of : {lacks : Type 0} {b full : Bool} {x : Unit} → Tests lacks b full (Some x) → (b ≡ true) × (full ≡ false)
-passed_of (passed p e) = (p, e)
+pub passed_of : {lacks : Type 0} {b : Bool} {x : Unit} → Tests lacks b (Ok x) → b ≡ true
+passed_of (passed p) = p

@@ -1,4 +1,2 @@
--- what a workspace is, and how an answer and its flag are read
-pub mod Space
--- names and types that are always there
-pub mod Grounds
+-- why a rule finds nothing, and what that says
+pub mod Refusals

@@ -1,11 +1,9 @@
-// Words that the caller lends to the rules, one whole slice at a time, and a flag that tells why an answer is None. What goes into terms
-// is called here with the words divided as it needs them.
+// What the rules call: terms, lists and types of any store, with the words that are lent divided as each call needs them, and why a rule
+// finds nothing.
 #![tactic(auto)]
 
-pub mod answers;
 pub mod build;
-pub mod ground;
 pub mod lists;
-pub mod space;
+pub mod refusal;
 pub mod terms;
 pub mod types;

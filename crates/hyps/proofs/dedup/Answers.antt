@@ -4,13 +4,7 @@ use Rattle.hyps.proofs.Sifted.{sifted-once}
 use Rattle.hyps.proofs.dedup.Goals as goal
 
 pub sift-requires : goal.sift-requires
-sift-requires g c =
-    record { stack = c.requires.stack; test = (_, leaves_repeated); terms = c.requires.list; list = ([], c.empty-empty.ensures.terms) }
+sift-requires g c = record { test = (_, leaves_repeated); terms = c.requires.list; list = ([], c.empty-empty.ensures.terms) }
 
 pub returns : goal.returns
-returns g c =
-    let e = c.sift.ensures in
-    record {
-      stack = e.stack;
-      cases = λ us h. rw (sifted-once us) at (e.cases _ us [] leaves_repeated h c.empty-empty.ensures.terms);
-    }
+returns g c us h = rw (sifted-once us) at (c.sift.ensures _ us [] leaves_repeated h c.empty-empty.ensures.terms)

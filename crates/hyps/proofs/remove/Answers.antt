@@ -6,12 +6,7 @@ use Rattle.hyps.proofs.remove.Goals as goal
 pub sift-requires : goal.sift-requires
 sift-requires g c =
     let (u, e) = c.requires.term in
-    record { stack = c.requires.stack; test = (_, leaves_same e); terms = c.requires.list; list = ([], c.empty-empty.ensures.terms) }
+    record { test = (_, leaves_same e); terms = c.requires.list; list = ([], c.empty-empty.ensures.terms) }
 
 pub returns : goal.returns
-returns g c =
-    let e = c.sift.ensures in
-    record {
-      stack = e.stack;
-      cases = λ u us h k. rw (sifted-remove u us) at (e.cases _ us [] (leaves_same h) k c.empty-empty.ensures.terms);
-    }
+returns g c u us h k = rw (sifted-remove u us) at (c.sift.ensures _ us [] (leaves_same h) k c.empty-empty.ensures.terms)

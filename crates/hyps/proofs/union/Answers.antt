@@ -5,9 +5,7 @@ use Rattle.hyps.proofs.union.Goals as goal
 pub sift-requires : goal.sift-requires
 sift-requires g c =
     let (vs, e) = c.requires.second in
-    record { stack = c.requires.stack; test = (_, leaves_in e); terms = c.requires.first; list = c.requires.second }
+    record { test = (_, leaves_in e); terms = c.requires.first; list = c.requires.second }
 
 pub returns : goal.returns
-returns g c =
-    let e = c.sift.ensures in
-    record { stack = e.stack; cases = λ us vs h k. rw (sifted-union us vs) at (e.cases _ us vs (leaves_in k) h k) }
+returns g c us vs h k = rw (sifted-union us vs) at (c.sift.ensures _ us vs (leaves_in k) h k)

@@ -6,9 +6,7 @@ pub sift-requires : goal.sift-requires
 sift-requires g c =
     let (u, d) = c.requires.term in
     let (vs, e) = c.requires.second in
-    record { stack = c.requires.stack; test = (_, leaves_either d e); terms = c.requires.first; list = c.requires.second }
+    record { test = (_, leaves_either d e); terms = c.requires.first; list = c.requires.second }
 
 pub returns : goal.returns
-returns g c =
-    let e = c.sift.ensures in
-    record { stack = e.stack; cases = λ u us vs d h k. rw (sifted_both u us vs) at (e.cases _ us vs (leaves_either d k) h k) }
+returns g c u us vs d h k = rw (sifted_both u us vs) at (c.sift.ensures _ us vs (leaves_either d k) h k)

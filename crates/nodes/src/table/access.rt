@@ -1,6 +1,6 @@
 // The table's functions: making it, adding a node, reading one, giving back.
 ghost use Rattle.std.specs.Prelude.{◌≡◌, ℕ, ◌+◌, ◌-◌, ◌*◌, ◌/◌, ◌≤◌, length};
-ghost use Rattle.nodes.specs.Table.{Puts, rows_of};
+ghost use Rattle.nodes.specs.Table.{Puts, all_rows, rows_of};
 ghost use Rattle.nodes.specs.Meaning.{state_of, made, IsMade, Gets, Sized};
 ghost use Rattle.std.proofs.Math.Option.{some};
 ghost use Rattle.nodes.specs.Items.{Item, tree_size};
@@ -10,6 +10,22 @@ ghost use Rattle.store.specs.State.{back};
 use crate::kind::Kind;
 use crate::node::Node;
 use crate::table::{EMPTY, NODE, Nodes, SHARE};
+
+// The node of a number, in a table of these words.
+pub(super) fn node_of(words: &[u64], n: u64) -> Option<Node>
+    ensures { Gets (all_rows words.now) n result }
+{
+    if n == EMPTY || n > (words.len() / NODE) as u64 {
+        return None;
+    }
+    let at = NODE * (n as usize - 1);
+    Some(Node {
+        kind: Kind::try_from(words[at]).ok()?,
+        x: words[at + 1],
+        y: words[at + 2],
+        size: words[at + 3],
+    })
+}
 
 impl Nodes<'_> {
     // An empty table in these words: there is room for a node in every six.
@@ -42,7 +58,7 @@ impl Nodes<'_> {
             return None;
         }
         let at = NODE * self.used;
-        self.words[at] = node.kind.code();
+        self.words[at] = node.kind as u64;
         self.words[at + 1] = node.x;
         self.words[at + 2] = node.y;
         self.words[at + 3] = node.size;
@@ -54,32 +70,14 @@ impl Nodes<'_> {
     pub fn get(&self, n: u64) -> Option<Node>
         ensures { Gets (rows_of self.now) n result }
     {
-        if n == EMPTY {
-            return None;
-        }
-        if n > self.count() {
-            return None;
-        }
-        let at = NODE * (n as usize - 1);
-        match Kind::of(self.words[at]) {
-            Some(kind) => Some(Node {
-                kind,
-                x: self.words[at + 1],
-                y: self.words[at + 2],
-                size: self.words[at + 3],
-            }),
-            None => None,
-        }
+        node_of(&self.words[..NODE * self.used], n)
     }
 
     // The size of what a number stands for.
     pub fn tree_size(&self, n: u64) -> u64
         ensures { Sized (state_of self.now).contents n result }
     {
-        match self.get(n) {
-            Some(node) => node.size,
-            None => 0,
-        }
+        self.get(n).map_or(0, |node| node.size)
     }
 
     // The size of what a node would stand for: one more than its parts.

@@ -1,17 +1,16 @@
-// Comparing what two numbers stand for. Pairs that are still to be compared lie in the words held back behind the nodes.
-ghost use Rattle.std.specs.Prelude.{◌≡◌, ℕ, ◌+◌, ◌*◌, ◌<◌, true, false, ◌≢◌, slice_index, slice_set};
+// Comparing what two numbers stand for, in the words held back behind the nodes.
+ghost use Rattle.std.specs.Prelude.{◌≡◌, ℕ, ◌*◌, ◌/◌, ◌≤◌, true, false, ◌≢◌, length, take};
 ghost use Rattle.store.specs.State.{Stays};
-ghost use Rattle.nodes.specs.Comparing.{Agree, RestSays};
+ghost use Rattle.nodes.specs.Comparing.{Agree, RestSays, Same};
 ghost use Rattle.nodes.specs.Items.{Item, Holds, Alike};
 ghost use Rattle.nodes.specs.Meaning.{items, state_of};
-ghost use Rattle.nodes.specs.Table.{rows_of};
+ghost use Rattle.nodes.specs.Table.{rows, all_rows};
 
 use crate::node::Node;
 use crate::pair::{Pair, Rest};
+use crate::table::access::node_of;
 use crate::table::{NODE, Nodes};
-
-// The words of a pair.
-const PAIR: usize = 2;
+use lent::stack::Stack;
 
 // Whether the nodes c and d of a pair agree in all but the parts that are numbers of nodes. A part that is no smaller than its number
 // stands for nothing.
@@ -29,78 +28,62 @@ fn agree(pair: Pair, c: Node, d: Node) -> bool
     }
 }
 
-impl Nodes<'_> {
-    // What is left to compare of two numbers that differ.
-    fn rest(&self, pair: Pair) -> Rest
-        requires { pair.a ≢ pair.b }
-        ensures { RestSays (items (rows_of self.now)) self.now.used pair result }
-    {
-        let Some(c) = self.get(pair.a) else {
-            return Rest::Differ;
-        };
-        let Some(d) = self.get(pair.b) else {
-            return Rest::Differ;
-        };
-        if !agree(pair, c, d) {
-            return Rest::Differ;
-        }
-        let second = Pair { a: c.y, b: d.y };
-        if c.kind.first_is_node() {
-            Rest::Both(Pair { a: c.x, b: d.x }, second)
+// What is left to compare of two numbers that differ, in a table of these words; None if their nodes do not agree.
+fn rest(words: &[u64], pair: Pair) -> Option<Rest>
+    requires { pair.a ≢ pair.b }
+    ensures { RestSays (items (all_rows words.now)) (length words.now / 4) pair result }
+{
+    let c = node_of(words, pair.a)?;
+    let d = node_of(words, pair.b)?;
+    if !agree(pair, c, d) {
+        return None;
+    }
+    let second = Pair { a: c.y, b: d.y };
+    if c.kind.first_is_node() {
+        Some(Rest::Both(Pair { a: c.x, b: d.x }, second))
+    } else {
+        Some(Rest::Second(second))
+    }
+}
+
+// Whether two numbers stand for the same, in a table whose first nodes are in use. Pairs that are still to be compared lie on a stack in
+// the words behind these.
+fn same(words: &mut [u64], used: usize, m: u64, n: u64) -> bool
+    requires { 6 * used ≤ length words.old }
+    ensures kept { take (4 * used) words.new ≡ take (4 * used) words.old }
+    ensures sound { result ≡ true → items (rows words.old used) m ≡ items (rows words.old used) n }
+    ensures complete { Same (items (rows words.old used)) m n → result ≡ true }
+{
+    let (nodes, free) = words.split_at_mut(NODE * used);
+    let mut pairs = Stack::new(free);
+    let mut pair = Pair { a: m, b: n };
+    loop {
+        if pair.a != pair.b {
+            match rest(nodes, pair) {
+                None => return false,
+                Some(Rest::Second(second)) => pair = second,
+                Some(Rest::Both(first, second)) => {
+                    // There is room: two words are held back for each node.
+                    pairs.push_all(&[first.a, first.b]).unwrap();
+                    pair = second;
+                }
+            }
         } else {
-            Rest::Second(second)
+            match pairs.pop_pair() {
+                None => return true,
+                Some((b, a)) => pair = Pair { a, b },
+            }
         }
     }
+}
 
-    // Keeps a pair for later, as the pair k.
-    fn keep(&mut self, k: usize, pair: Pair)
-        requires { k < self.old.used }
-        ensures used { self.new.used ≡ self.old.used }
-        ensures words { self.new.words.now ≡ slice_set (slice_set self.old.words.now (4 * self.old.used + 2 * k) pair.a) (4 * self.old.used + 2 * k + 1) pair.b }
-    {
-        let at = NODE * self.used + PAIR * k;
-        self.words[at] = pair.a;
-        self.words[at + 1] = pair.b;
-    }
-
-    // The pair that was kept as the pair k.
-    fn kept(&self, k: usize) -> Pair
-        requires { k < self.now.used }
-        ensures a { result.a ≡ slice_index self.now.words.now (4 * self.now.used + 2 * k) }
-        ensures b { result.b ≡ slice_index self.now.words.now (4 * self.now.used + 2 * k + 1) }
-    {
-        let at = NODE * self.used + PAIR * k;
-        Pair {
-            a: self.words[at],
-            b: self.words[at + 1],
-        }
-    }
-
+impl Nodes<'_> {
     // Whether two numbers stand for the same.
     pub fn equal(&mut self, m: u64, n: u64) -> bool
         ensures stays { Stays (state_of self.old) (state_of self.new) }
         ensures sound { result ≡ true → Alike (state_of self.old).contents m n }
         ensures complete { (i : Item) → Holds (state_of self.old).contents m i → Holds (state_of self.old).contents n i → result ≡ true }
     {
-        let mut pair = Pair { a: m, b: n };
-        let mut pairs: usize = 0;
-        loop {
-            if pair.a != pair.b {
-                match self.rest(pair) {
-                    Rest::Differ => return false,
-                    Rest::Second(second) => pair = second,
-                    Rest::Both(first, second) => {
-                        self.keep(pairs, first);
-                        pairs += 1;
-                        pair = second;
-                    }
-                }
-            } else if pairs == 0 {
-                return true;
-            } else {
-                pairs -= 1;
-                pair = self.kept(pairs);
-            }
-        }
+        same(self.words, self.used, m, n)
     }
 }

@@ -15,11 +15,8 @@ impl Nodes<'_> {
             return None;
         }
         let mut n = EMPTY;
-        for i in (0..w.len()).rev() {
-            match self.put(Kind::Byte, w[i] as u64, n) {
-                Some(m) => n = m,
-                None => return None,
-            }
+        for byte in w.iter().rev() {
+            n = self.put(Kind::Byte, *byte as u64, n)?;
         }
         Some(n)
     }
@@ -31,9 +28,7 @@ impl Nodes<'_> {
         if self.left() <= w.len() {
             return None;
         }
-        match self.name(w) {
-            Some(n) => self.put(Kind::TypeVariable, n, EMPTY),
-            None => None,
-        }
+        let n = self.name(w)?;
+        self.put(Kind::TypeVariable, n, EMPTY)
     }
 }

@@ -1,105 +1,65 @@
-use Rattle.std.proofs.Common.{sym, refl, ◌∙◌, inl, rules}
+use Rattle.std.proofs.Common.{sym, ◌∙◌, inl}
 use Rattle.reader.proofs.Streams.{flat_empty, flat-closes}
-use Rattle.store.proofs.Growth.{grows_same}
-use Rattle.parser_types.proofs.Refused.{refused}
-use Rattle.parser_types.proofs.Single.{given_token, nothing-closes, word-closes, open_closes, word_read, word-short, unnamed, name-short, arguments, arguments_unread, arguments_short, bracket_read, bracket_short}
+use Rattle.lent.proofs.Refused.{refused}
+use Rattle.parser_types.proofs.Single.{given_token, word_read, word-short, unnamed, name-short, arguments, arguments_unread, arguments_short, bracket_read, bracket_short}
 use Rattle.parser_types.proofs.read_type.Goals as goal
 
-pub returns-in_default : goal.returns-in_default
-returns-in_default g c = record {
-  stack = search rules;
-  cases = λ u qs e. absurd (flat_empty u qs (sym e ∙ c.in_default.ensures.0));
-  none = λ qs e. absurd (nothing-closes (sym c.in_default.ensures.0 ∙ e));
-}
+pub returns-in_err-word_type-in-Some-Word-clause-cases : goal.returns-in_err-word_type-in-Some-Word-clause-cases
+returns-in_err-word_type-in-Some-Word-clause-cases g c = λ u qs e.
+    let i = given_token c.in-Some-Word.ensures.steps c.in-Some-Word.field-0-is in
+    refused _ c.from_residual.result c.from_residual.ensures.0 (inl (word-short u qs e i c.in_err-word_type-in-Some-Word.ensures))
 
-pub returns-in-Close : goal.returns-in-Close
-returns-in-Close g c = record {
-  stack = search rules;
-  cases = λ u qs e. absurd (flat-closes u qs _ (sym e ∙ given_token c.in-Some.ensures c.in-Close.is));
-  none = λ qs e. (refl, grows_same);
-}
+pub returns-in_ok-word_type-in-Some-Word-clause-cases : goal.returns-in_ok-word_type-in-Some-Word-clause-cases
+returns-in_ok-word_type-in-Some-Word-clause-cases g c = λ u qs e.
+    let i = given_token c.in-Some-Word.ensures.steps c.in-Some-Word.field-0-is in
+    word_read u qs e i c.in_ok-word_type-in-Some-Word.ensures
 
-pub returns-in_err-a-in-Word : goal.returns-in_err-a-in-Word
-returns-in_err-a-in-Word g c = record {
-  stack = search rules;
-  cases = λ u qs e.
-      refused _ c.from_residual.result c.from_residual.ensures.0
-      (inl (word-short u qs e (given_token c.in-Some.ensures c.in-Word.is) c.in_err-a-in-Word.ensures));
-  none = λ qs e. absurd (word-closes (sym (given_token c.in-Some.ensures c.in-Word.is) ∙ e));
-}
+pub returns-in_err-name-in-Some-Open-clause-cases : goal.returns-in_err-name-in-Some-Open-clause-cases
+returns-in_err-name-in-Some-Open-clause-cases g c = λ u qs e.
+    let i = given_token c.in-Some-Open.ensures.steps c.in-Some-Open.field-0-is in
+    refused _ c.from_residual-in_err-name-in-Some-Open.result c.from_residual-in_err-name-in-Some-Open.ensures.0
+    (inl (name-short u qs e i c.in_err-name-in-Some-Open.ensures))
 
-pub returns-in_ok-a-in-Word : goal.returns-in_ok-a-in-Word
-returns-in_ok-a-in-Word g c = record {
-  stack = search rules;
-  cases = λ u qs e. word_read u qs e (given_token c.in-Some.ensures c.in-Word.is) c.in_ok-a-in-Word.ensures;
-  none = λ qs e. absurd (word-closes (sym (given_token c.in-Some.ensures c.in-Word.is) ∙ e));
-}
+pub returns-in_default-clause-cases : goal.returns-in_default-clause-cases
+returns-in_default-clause-cases g c = λ u qs e.
+    let i = given_token c.in-Some-Open.ensures.steps c.in-Some-Open.field-0-is in
+    unnamed u qs e i (rw c.in_default.is at c.in_ok-name-in-Some-Open.ensures)
 
-pub returns-in_err-opened-in-Open : goal.returns-in_err-opened-in-Open
-returns-in_err-opened-in-Open g c = record {
-  stack = search rules;
-  cases = λ u qs e.
-      refused _ c.from_residual-in_err-opened-in-Open.result c.from_residual-in_err-opened-in-Open.ensures.0
-      (inl (name-short u qs e (given_token c.in-Some.ensures c.in-Open.is) c.in_err-opened-in-Open.ensures));
-  none = λ qs e. absurd (open_closes (sym (given_token c.in-Some.ensures c.in-Open.is) ∙ e));
-}
+pub returns-in_err-list-in-Some-Open-clause-cases : goal.returns-in_err-list-in-Some-Open-clause-cases
+returns-in_err-list-in-Some-Open-clause-cases g c = λ u qs e.
+    let i = given_token c.in-Some-Open.ensures.steps c.in-Some-Open.field-0-is in
+    let b = rw c.in-Some.is at c.in_ok-name-in-Some-Open.ensures in
+    let (us, k, l) = arguments u qs e i b in
+    refused _ c.from_residual-in_err-list-in-Some-Open.result c.from_residual-in_err-list-in-Some-Open.ensures.0
+    (arguments_short u qs e i b (c.in_err-list-in-Some-Open.ensures us qs l))
 
-pub returns-in_default-opened : goal.returns-in_default-opened
-returns-in_default-opened g c = record {
-  stack = search rules;
-  cases = λ u qs e.
-      unnamed u qs e (given_token c.in-Some.ensures c.in-Open.is) (rw c.in_default-opened.is at c.in_ok-opened-in-Open.ensures);
-  none = λ qs e. absurd (open_closes (sym (given_token c.in-Some.ensures c.in-Open.is) ∙ e));
-}
+pub returns-in_default-2-clause-cases : goal.returns-in_default-2-clause-cases
+returns-in_default-2-clause-cases g c = λ u qs e.
+    let i = given_token c.in-Some-Open.ensures.steps c.in-Some-Open.field-0-is in
+    let b = rw c.in-Some.is at c.in_ok-name-in-Some-Open.ensures in
+    let (us, k, l) = arguments u qs e i b in
+    arguments_unread u qs e i b (rw c.in_default-2.is at c.in_ok-list-in-Some-Open.ensures us qs l)
 
-pub returns-in_err-read-in-Open : goal.returns-in_err-read-in-Open
-returns-in_err-read-in-Open g c =
-    let i = given_token c.in-Some.ensures c.in-Open.is in
-    let b = rw c.in-Some-opened.is at c.in_ok-opened-in-Open.ensures in
-    record {
-      stack = c.in_err-read-in-Open.ensures.stack;
-      cases = λ u qs e.
-          let (us, k, l) = arguments u qs e i b in
-          refused _ c.from_residual-in_err-read-in-Open.result c.from_residual-in_err-read-in-Open.ensures.0
-          (arguments_short u qs e i b (c.in_err-read-in-Open.ensures.cases us qs l));
-      none = λ qs e. absurd (open_closes (sym (given_token c.in-Some.ensures c.in-Open.is) ∙ e));
-    }
+pub returns-in_err-ok_or-in-Some-Open-clause-cases : goal.returns-in_err-ok_or-in-Some-Open-clause-cases
+returns-in_err-ok_or-in-Some-Open-clause-cases g c = λ u qs e.
+    let i = given_token c.in-Some-Open.ensures.steps c.in-Some-Open.field-0-is in
+    let b = rw c.in-Some.is at c.in_ok-name-in-Some-Open.ensures in
+    let (us, k, l) = arguments u qs e i b in
+    let r = rw c.in-Some-2.is at c.in_ok-list-in-Some-Open.ensures us qs l in
+    refused _ c.from_residual-in_err-ok_or-in-Some-Open.result c.from_residual-in_err-ok_or-in-Some-Open.ensures.0
+    (inl (bracket_short u qs e i b r (rw c.in_err-ok_or-in-Some-Open.ensures.ok_part at c.type_named.ensures)))
 
-pub returns-in_default-read : goal.returns-in_default-read
-returns-in_default-read g c =
-    let i = given_token c.in-Some.ensures c.in-Open.is in
-    let b = rw c.in-Some-opened.is at c.in_ok-opened-in-Open.ensures in
-    let r = rw c.in_default-read.is at c.in_ok-read-in-Open.ensures in
-    record {
-      stack = r.stack;
-      cases = λ u qs e.
-          let (us, k, l) = arguments u qs e i b in
-          arguments_unread u qs e i b (r.cases us qs l);
-      none = λ qs e. absurd (open_closes (sym (given_token c.in-Some.ensures c.in-Open.is) ∙ e));
-    }
+pub returns-in_ok-ok_or-in-Some-Open-clause-cases : goal.returns-in_ok-ok_or-in-Some-Open-clause-cases
+returns-in_ok-ok_or-in-Some-Open-clause-cases g c = λ u qs e.
+    let i = given_token c.in-Some-Open.ensures.steps c.in-Some-Open.field-0-is in
+    let b = rw c.in-Some.is at c.in_ok-name-in-Some-Open.ensures in
+    let (us, k, l) = arguments u qs e i b in
+    let r = rw c.in-Some-2.is at c.in_ok-list-in-Some-Open.ensures us qs l in
+    bracket_read u qs e i b r (rw c.in_ok-ok_or-in-Some-Open.ensures.ok_part at c.type_named.ensures)
 
-pub returns-in-Some-type_named : goal.returns-in-Some-type_named
-returns-in-Some-type_named g c =
-    let i = given_token c.in-Some.ensures c.in-Open.is in
-    let b = rw c.in-Some-opened.is at c.in_ok-opened-in-Open.ensures in
-    let r = rw c.in-Some-read.is at c.in_ok-read-in-Open.ensures in
-    record {
-      stack = r.stack;
-      cases = λ u qs e.
-          let (us, k, l) = arguments u qs e i b in
-          bracket_read u qs e i b (r.cases us qs l) c.in-Some-type_named.ensures;
-      none = λ qs e. absurd (open_closes (sym (given_token c.in-Some.ensures c.in-Open.is) ∙ e));
-    }
+pub returns-in-Some-Close-clause-cases : goal.returns-in-Some-Close-clause-cases
+returns-in-Some-Close-clause-cases g c = λ u qs e.
+    absurd (flat-closes u qs _ (sym e ∙ given_token c.in-Some-Close.ensures.steps c.in-Some-Close.field-0-is))
 
-pub returns-in-None : goal.returns-in-None
-returns-in-None g c =
-    let i = given_token c.in-Some.ensures c.in-Open.is in
-    let b = rw c.in-Some-opened.is at c.in_ok-opened-in-Open.ensures in
-    let r = rw c.in-Some-read.is at c.in_ok-read-in-Open.ensures in
-    record {
-      stack = r.stack;
-      cases = λ u qs e.
-          let (us, k, l) = arguments u qs e i b in
-          inl (bracket_short u qs e i b (r.cases us qs l) c.in-None.ensures);
-      none = λ qs e. absurd (open_closes (sym (given_token c.in-Some.ensures c.in-Open.is) ∙ e));
-    }
+pub returns-in-None-clause-cases : goal.returns-in-None-clause-cases
+returns-in-None-clause-cases g c = λ u qs e. absurd (flat_empty u qs (sym e ∙ c.in-None.ensures.steps.0))

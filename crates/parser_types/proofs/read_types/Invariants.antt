@@ -3,16 +3,14 @@ use Rattle.std.proofs.Common.{◌≡◌, List, ◌∷◌, ◌++◌}
 use Rattle.hol.specs.Text.{Token, closes, Sexps}
 use Rattle.reader.specs.Flat.{flats}
 use Rattle.reader.specs.Next.{stream}
-use Rattle.stack.specs.Frames.{held}
-use Rattle.stack.proofs.Lent.{Lent}
 use Rattle.parser_types.specs.Machine.{load}
 use Rattle.parser_types.proofs.Loop.{Way}
 use Rattle.parser_types.proofs.read_types.Given as goal
 
 abbrev pub invariant-loop-turn : goal.invariant-loop-turn
 invariant-loop-turn g l =
-    Lent l.initial.f l.f × ((us : Sexps) (qs : List Token) → stream l.initial.tokens ≡ flats us ++ (closes ∷ qs)
-    → Way (g.S.Store.state l.initial.store) (g.S.Store.state l.store) (held l.f) (stream l.tokens) qs us l.turn)
+    (l.pending.capacity ≡ l.initial.pending.capacity) × ((us : Sexps) (qs : List Token) → stream l.initial.tokens ≡ flats us ++ (closes ∷ qs)
+    → Way (g.S.Store.state l.initial.store) (g.S.Store.state l.store) l.pending.held (stream l.tokens) qs us l.turn)
 
 abbrev pub decreases-loop-turn : goal.decreases-loop-turn
-decreases-loop-turn g l = load l.turn (held l.f) (stream l.tokens)
+decreases-loop-turn g l = load l.turn l.pending.held (stream l.tokens)

@@ -1,7 +1,8 @@
+use Rattle.std.proofs.Common.{ap}
 use Rattle.store.specs.Views.{ViewLambda}
-use Rattle.stack.specs.Frames.{held, capacity}
 use Rattle.rebuild.specs.Machine.{Point, Moved, Moves, Stuck}
 use Rattle.rebuild.specs.declared.turn.Turn.TheVariants.{Down}
+use Rattle.lent.proofs.Refused.{an_err}
 use Rattle.rebuild.proofs.down.Goals as goal
 use Rattle.rebuild.proofs.Steps.{leaf_seen, going_down, going_under, into_apply, apply_stuck}
 
@@ -9,65 +10,39 @@ pub returns-in-Free : goal.returns-in-Free
 returns-in-Free g c =
     let st = g.S.Store.state in
     let s = st c.args.store.now in
-    let f = c.args.f.now in
+    let f = c.args.stack.now in
     let p = c.at_leaf.ensures in
     record {
-      within = p.within;
-      same = p.same;
-      top_name = p.top_name;
-      words_name = p.words_name;
+      capacity = ap (λ q. q.capacity) p.stack;
       moves = λ F d x e at a.
-          going_down (λ y. Moves F d (capacity f) s (st c.at_leaf.new.store) (held c.at_leaf.new.f) y c.at_leaf.result) at
-          (λ o u i h q. p.moves F d o u e i (leaf_seen s.contents u c.in-Some.view c.in-Free.is (c.in-Some.ensures u i)) h q);
+          going_down (λ y. Moves F d f.capacity s (st c.at_leaf.new.store) c.at_leaf.new.stack.held y c.at_leaf.result) at
+          (λ o u i h q. rw p.stack (p.moves F d o u e i (leaf_seen s.contents u c.in_ok-ok_or.field-0 c.in-Free.is (rw c.in_ok-ok_or.ensures.ok_part at (c.view_term.ensures u i))) h q));
     }
 
-pub returns-then-push_all : goal.returns-then-push_all
-returns-then-push_all g c =
+pub returns-in_ok-push_all-in-Apply-clause-moves : goal.returns-in_ok-push_all-in-Apply-clause-moves
+returns-in_ok-push_all-in-Apply-clause-moves g c F d x e at a =
     let s = g.S.Store.state c.args.store.now in
-    let f = c.args.f.now in
-    let p = c.if-push_all.ensures in
-    record {
-      within = p.within;
-      same = p.same;
-      top_name = p.top_name;
-      words_name = p.words_name;
-      moves = λ F d x e at a.
-          going_down (λ y. Moved F d s s (held c.push_all.new.self) y (Down c.in-Apply.g c.args.depth)) at
-          (λ o u i h q. into_apply F d s s (held f) o h c.args.depth q u c.in-Apply.g c.in-Apply.x
-          (rw c.in-Apply.is at (c.in-Some.ensures u i)) (held c.push_all.new.self) p.cases);
-    }
+    going_down (λ y. Moved F d s s c.push_all.new.self.held y (Down c.in-Apply.g c.args.depth)) at
+    (λ o u i h q. into_apply F d s s c.args.stack.now.held o h c.args.depth q u c.in-Apply.g c.in-Apply.x
+    (rw (c.in_ok-ok_or.ensures.ok_part, c.in-Apply.is) at (c.view_term.ensures u i)) c.push_all.new.self.held c.in_ok-push_all-in-Apply.ensures.0)
 
-pub returns-else-push_all : goal.returns-else-push_all
-returns-else-push_all g c =
+pub returns-in_err-push_all-in-Apply-clause-moves : goal.returns-in_err-push_all-in-Apply-clause-moves
+returns-in_err-push_all-in-Apply-clause-moves g c F d x e at a =
     let s = g.S.Store.state c.args.store.now in
-    let f = c.args.f.now in
-    let p = c.if-push_all.ensures in
-    record {
-      within = p.within;
-      same = p.same;
-      top_name = p.top_name;
-      words_name = p.words_name;
-      moves = λ F d x e at a.
-          going_down (Stuck F d (capacity f) s) at
-          (λ o u i h q. apply_stuck F d s s (held f) o h c.args.depth q u c.in-Apply.g c.in-Apply.x
-          (rw c.in-Apply.is at (c.in-Some.ensures u i)) (capacity f) p.cases.1);
-    }
+    rw (an_err c.from_residual-in_err-push_all-in-Apply.result c.from_residual-in_err-push_all-in-Apply.ensures.0).1
+    (going_down (Stuck F d c.args.stack.now.capacity s) at
+    (λ o u i h q. apply_stuck F d s s c.args.stack.now.held o h c.args.depth q u c.in-Apply.g c.in-Apply.x
+    (rw (c.in_ok-ok_or.ensures.ok_part, c.in-Apply.is) at (c.view_term.ensures u i)) c.args.stack.now.capacity
+    c.in_err-push_all-in-Apply.ensures.1))
 
-pub returns-in-Lambda : goal.returns-in-Lambda
-returns-in-Lambda g c =
+pub returns-in-Lambda-clause-moves : goal.returns-in-Lambda-clause-moves
+returns-in-Lambda-clause-moves g c F d x e at a =
     let st = g.S.Store.state in
     let s = st c.args.store.now in
-    let f = c.args.f.now in
-    let p = c.into_lambda.ensures in
-    record {
-      within = p.within;
-      same = p.same;
-      top_name = p.top_name;
-      words_name = p.words_name;
-      moves = λ F d x e at a.
-          let P : Point → Type 0 = λ y. Moves F d (capacity f) s (st c.into_lambda.new.store) (held c.into_lambda.new.f) y c.into_lambda.result in
-          going_down P at
-          (λ o u i h q.
-          let v : ViewLambda s.contents c.in-Lambda.a c.in-Lambda.body u = rw c.in-Lambda.is at (c.in-Some.ensures u i) in
-          going_under P o v.is (p.moves F d o v.ty v.body e v.ty_is v.body_is h q a));
-    }
+    let n = c.into_lambda.new in
+    let P : Point → Type 0 = λ y. Moves F d c.args.stack.now.capacity s (st n.store) n.stack.held y c.into_lambda.result in
+    let l = c.in-Lambda in
+    going_down P at
+    (λ o u i h q.
+    let v : ViewLambda s.contents l.a l.body u = rw (c.in_ok-ok_or.ensures.ok_part, l.is) at (c.view_term.ensures u i) in
+    going_under P o v (c.into_lambda.ensures.moves F d o v.ty v.body e v.ty_is v.body_is h q a))

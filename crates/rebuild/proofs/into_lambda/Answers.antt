@@ -1,73 +1,46 @@
-use Rattle.std.proofs.Common.{◌-◌, ◌^◌, ◌<◌, length, refl, ap, arith, rules}
-use Rattle.stack.specs.Frames.{held, capacity}
-use Rattle.stack.proofs.Words.{unmoved, below-held}
-use Rattle.stack.proofs.Lent.{same_trans}
+use Rattle.std.proofs.Common.{◌≡◌, ◌^◌, ◌+◌, ◌-◌, ◌<◌, length, ap, arith, rules}
+use Rattle.lent.proofs.Words.{pile-length, pile-spare, pile_lent}
+use Rattle.lent.proofs.Refused.{an_err}
 use Rattle.rebuild.proofs.into_lambda.Goals as goal
-use Rattle.rebuild.proofs.Above.{lent_within, lent_same, room-above, held_below}
-use Rattle.rebuild.proofs.Steps.{into_lambda, lambda_stuck, lambda_no_place, shallow}
+use Rattle.rebuild.proofs.Steps.{into_lambda, lambda_stuck, lambda_no_place, too_deep}
 
-pub returns-in_default : goal.returns-in_default
-returns-in_default g c =
-    let s = g.S.Store.state c.args.store.now in
-    let f = c.args.f.now in
-    let n = held_below f c.requires.within in
-    let l : f.top.now < 2 ^ 64 = search rules in
-    record {
-      within = c.requires.within;
-      same = unmoved f;
-      top_name = refl;
-      words_name = refl;
-      moves = λ F d p b u e i j h q a.
-          absurd (c.in_default.ensures (shallow F d s s (held f) p h c.args.depth q a (omega arith)));
-    }
-
-pub returns-then-push_all : goal.returns-then-push_all
-returns-then-push_all g c =
+pub returns-in_err-b-clause-moves : goal.returns-in_err-b-clause-moves
+returns-in_err-b-clause-moves g c F d p b u e i j h q a =
     let st = g.S.Store.state in
-    let f = c.args.f.now in
-    let w = c.requires.within in
-    let r = c.typ.ensures.stack in
-    let p = c.if-push_all.ensures in
-    record {
-      within = p.within;
-      same = same_trans (lent_same f _ _ w refl refl r) p.same;
-      top_name = p.top_name;
-      words_name = p.words_name;
-      moves = λ F d o b u e i j h q a.
-          into_lambda F d (st c.args.store.now) (st c.typ.new.store) (held f) o h c.args.depth q b u c.args.body
-          c.in-Some.under j c.in-Some.ensures.1 (held c.push_all.new.self) _ (below-held f w c.typ.new.words r.below)
-          c.in-Ok.b p.cases (c.in-Ok.ensures.made F b e i);
-    }
+    rw (an_err c.from_residual.result c.from_residual.ensures.0).1
+    (lambda_stuck F d (st c.args.store.now) (st c.typ.new.store) c.args.stack.now.held p h c.args.depth q b u c.args.stack.now.capacity _
+    (pile-spare _ _ _ c.stack.invariant c.stack.view_is) (c.in_err-b.ensures F b e i))
 
-pub returns-else-push_all : goal.returns-else-push_all
-returns-else-push_all g c =
+pub returns-in_err-under-clause-moves : goal.returns-in_err-under-clause-moves
+returns-in_err-under-clause-moves g c F d p b u e i j h q a =
     let st = g.S.Store.state in
-    let f = c.args.f.now in
-    let w = c.requires.within in
-    let r = c.typ.ensures.stack in
-    let p = c.if-push_all.ensures in
-    record {
-      within = p.within;
-      same = same_trans (lent_same f _ _ w refl refl r) p.same;
-      top_name = p.top_name;
-      words_name = p.words_name;
-      moves = λ F d o b u e i j h q a.
-          lambda_no_place F d (st c.args.store.now) (st c.typ.new.store) (held f) o h c.args.depth q b u (capacity f)
-          (omega (arith, r.len, ap length (below-held f w c.typ.new.words r.below), p.cases.1));
-    }
+    let n = pile-length c.stack.inside.words.now c.stack.inside.len c.stack.invariant in
+    let l : length c.args.stack.now.held < 2 ^ 64 = rw (← c.stack.view_is) (omega (arith, n, c.stack.invariant, c.stack.told.0)) in
+    rw (an_err c.from_residual-in_err-under.result c.from_residual-in_err-under.ensures.0).1
+    (too_deep F d (st c.args.store.now) (st c.typ.new.store) c.args.stack.now.held p h c.args.depth q b u c.args.stack.now.capacity a l
+    (rw c.in_err-under.ensures.ok_part at c.checked_add.ensures))
 
-pub returns-in-Err : goal.returns-in-Err
-returns-in-Err g c =
+pub returns-in_err-push_all-clause-moves : goal.returns-in_err-push_all-clause-moves
+returns-in_err-push_all-clause-moves g c F d p b u e i j h q a =
     let st = g.S.Store.state in
-    let f = c.args.f.now in
-    let w = c.requires.within in
-    let r = c.typ.ensures.stack in
-    record {
-      within = lent_within f _ _ w refl refl r;
-      same = lent_same f _ _ w refl refl r;
-      top_name = refl;
-      words_name = refl;
-      moves = λ F d p b u e i j h q a.
-          lambda_stuck F d (st c.args.store.now) (st c.typ.new.store) (held f) p h c.args.depth q b u (capacity f)
-          (length f.words.now - f.top.now) (room-above f w) (c.in-Err.ensures.made F b e i);
-    }
+    let f = c.args.stack.now in
+    let r = c.in_err-push_all.ensures in
+    let z = c.stack in
+    let free = length z.inside.words.now - z.inside.len in
+    let v : c.push_all.new.self.capacity ≡ f.capacity = search rules in
+    let w = ap length (pile_lent _ c.typ.new.words _ free f z.invariant z.view_is) in
+    let l : f.capacity < length f.held + 2 = omega (arith, r.1, v, ap (λ o. o.capacity) r.0, w) in
+    rw (an_err c.from_residual-in_err-push_all.result c.from_residual-in_err-push_all.ensures.0).1
+    (lambda_no_place F d (st c.args.store.now) (st c.typ.new.store) f.held p h c.args.depth q b u f.capacity l)
+
+pub returns-clause-moves : goal.returns-clause-moves
+returns-clause-moves g c F d p b u e i j h q a =
+    let st = g.S.Store.state in
+    let r = c.in_ok-push_all.ensures in
+    let k = c.in_ok-under.ensures.ok_part in
+    let z = c.stack in
+    let free = length z.inside.words.now - z.inside.len in
+    into_lambda F d (st c.args.store.now) (st c.typ.new.store) c.args.stack.now.held p h c.args.depth q b u c.args.body
+    c.in_ok-under.under j (rw k at c.checked_add.ensures).1 c.push_all.new.self.held c.in_ok-b.b
+    (rw (pile_lent _ c.typ.new.words _ free _ z.invariant z.view_is) at r.0)
+    (c.in_ok-b.ensures F b e i)

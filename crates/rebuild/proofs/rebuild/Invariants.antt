@@ -1,12 +1,10 @@
-use Rattle.stack.specs.Frames.{held}
 use Rattle.rebuild.proofs.Loop.{Running, turn-moves}
 use Rattle.rebuild.proofs.rebuild.Given as goal
 
 abbrev pub invariant-loop-turn : goal.invariant-loop-turn
 invariant-loop-turn g l =
-    Running (g.L.Leaf.does l.leaf l.entries) (g.S.Store.state l.initial.store) l.t l.depth l.initial.f (g.S.Store.state l.store)
-    l.f l.turn
+    Running (g.L.Leaf.does l.leaf) (g.S.Store.state l.initial.store) l.t l.depth l.initial.stack (g.S.Store.state l.store) l.stack l.turn
 
 -- the moves to come
 abbrev pub decreases-loop-turn : goal.decreases-loop-turn
-decreases-loop-turn g l = turn-moves (g.S.Store.state l.store).contents (held l.f) l.turn
+decreases-loop-turn g l = turn-moves (g.S.Store.state l.store).contents l.stack.held l.turn

@@ -1,108 +1,51 @@
-use Rattle.std.proofs.Common.{◌∙◌}
-use Rattle.stack.specs.Frames.{held, capacity}
-use Rattle.stack.proofs.Lent.{same_trans, same-capacity}
+use Rattle.lent.proofs.Refused.{an_err}
 use Rattle.rebuild.proofs.up.Goals as goal
 use Rattle.rebuild.proofs.Steps.{ended, function_done, function_stuck, argument_done, argument_full, body-done, body_full}
 
-pub returns-in_default : goal.returns-in_default
-returns-in_default g c =
+pub returns-in_default-clause-moves : goal.returns-in_default-clause-moves
+returns-in_default-clause-moves g c F d x at =
     let s = g.S.Store.state c.args.store.now in
-    let p = c.in_default.ensures in
-    record {
-      within = p.within;
-      same = p.same;
-      top_name = p.top_name;
-      words_name = p.words_name;
-      moves = λ F d x at.
-          ended F d s s (held c.args.f.now) c.args.n c.args.depth (held c.pop_pair.new.self) at p.cases.1;
-    }
+    ended F d s s c.args.stack.now.held c.args.n c.args.depth c.pop_pair.new.self.held at c.in_default.ensures.1
 
-pub returns-then-push_all : goal.returns-then-push_all
-returns-then-push_all g c =
+pub returns-in_ok-push_all-in-Function-clause-moves : goal.returns-in_ok-push_all-in-Function-clause-moves
+returns-in_ok-push_all-in-Function-clause-moves g c F d x at =
     let s = g.S.Store.state c.args.store.now in
-    let p = c.in-Some.ensures in
-    let q = c.if-push_all.ensures in
-    record {
-      within = q.within;
-      same = same_trans p.same q.same;
-      top_name = q.top_name ∙ p.top_name;
-      words_name = q.words_name ∙ p.words_name;
-      moves = λ F d x at.
-          function_done F d s s (held c.args.f.now) c.args.n c.args.depth c.in-Some.k c.in-Some.kept
-          (held c.pop_pair.new.self) p.cases (held c.push_all.new.self) at c.in-Function.ensures q.cases;
-    }
+    function_done F d s s c.args.stack.now.held c.args.n c.args.depth c.in-Some.k c.in-Some.kept c.pop_pair.new.self.held
+    c.in-Some.ensures.0 c.push_all.new.self.held at c.in-Function.ensures c.in_ok-push_all-in-Function.ensures.0
 
-pub returns-else-push_all : goal.returns-else-push_all
-returns-else-push_all g c =
+pub returns-in_err-push_all-in-Function-clause-moves : goal.returns-in_err-push_all-in-Function-clause-moves
+returns-in_err-push_all-in-Function-clause-moves g c F d x at =
     let s = g.S.Store.state c.args.store.now in
-    let p = c.in-Some.ensures in
-    let q = c.if-push_all.ensures in
-    record {
-      within = q.within;
-      same = same_trans p.same q.same;
-      top_name = q.top_name ∙ p.top_name;
-      words_name = q.words_name ∙ p.words_name;
-      moves = λ F d x at.
-          function_stuck F d s s (held c.args.f.now) c.args.n c.args.depth c.in-Some.k c.in-Some.kept
-          (held c.pop_pair.new.self) p.cases (capacity c.args.f.now) at (rw (same-capacity p.same) at q.cases.1);
-    }
+    rw (an_err c.from_residual.result c.from_residual.ensures.0).1
+    (function_stuck F d s s c.args.stack.now.held c.args.n c.args.depth c.in-Some.k c.in-Some.kept c.pop_pair.new.self.held
+    c.in-Some.ensures.0 c.args.stack.now.capacity at (rw c.in-Some.ensures.1 at c.in_err-push_all-in-Function.ensures.1))
 
-pub returns-in-Some-apply : goal.returns-in-Some-apply
-returns-in-Some-apply g c =
-    let s = g.S.Store.state c.args.store.now in
-    let t = g.S.Store.state c.apply.new.self in
-    let p = c.in-Some.ensures in
-    record {
-      within = p.within;
-      same = p.same;
-      top_name = p.top_name;
-      words_name = p.words_name;
-      moves = λ F d x at.
-          argument_done F d s t (held c.args.f.now) c.args.n c.args.depth c.in-Some.k c.in-Some.kept
-          (held c.pop_pair.new.self) p.cases c.in-Some-apply.m at c.in-Argument.ensures c.in-Some-apply.ensures;
-    }
+pub returns-in_ok-ok_or-in-Argument-clause-moves : goal.returns-in_ok-ok_or-in-Argument-clause-moves
+returns-in_ok-ok_or-in-Argument-clause-moves g c F d x at =
+    let st = g.S.Store.state in
+    argument_done F d (st c.args.store.now) (st c.apply.new.self) c.args.stack.now.held c.args.n c.args.depth c.in-Some.k c.in-Some.kept
+    c.pop_pair.new.self.held c.in-Some.ensures.0 c.in_ok-ok_or-in-Argument.field-0 at c.in-Argument.ensures
+    (rw c.in_ok-ok_or-in-Argument.ensures.ok_part at c.apply.ensures)
 
-pub returns-in-None : goal.returns-in-None
-returns-in-None g c =
-    let s = g.S.Store.state c.args.store.now in
-    let t = g.S.Store.state c.apply.new.self in
-    let p = c.in-Some.ensures in
-    record {
-      within = p.within;
-      same = p.same;
-      top_name = p.top_name;
-      words_name = p.words_name;
-      moves = λ F d x at.
-          argument_full F d s t (held c.args.f.now) c.args.n c.args.depth c.in-Some.k c.in-Some.kept
-          (held c.pop_pair.new.self) p.cases (capacity c.args.f.now) at c.in-Argument.ensures c.in-None.ensures;
-    }
+pub returns-in_err-ok_or-in-Argument-clause-moves : goal.returns-in_err-ok_or-in-Argument-clause-moves
+returns-in_err-ok_or-in-Argument-clause-moves g c F d x at =
+    let st = g.S.Store.state in
+    rw (an_err c.from_residual-in_err-ok_or-in-Argument.result c.from_residual-in_err-ok_or-in-Argument.ensures.0).1
+    (argument_full F d (st c.args.store.now) (st c.apply.new.self) c.args.stack.now.held c.args.n c.args.depth c.in-Some.k
+    c.in-Some.kept c.pop_pair.new.self.held c.in-Some.ensures.0 c.args.stack.now.capacity at c.in-Argument.ensures
+    (rw c.in_err-ok_or-in-Argument.ensures.ok_part at c.apply.ensures))
 
-pub returns-in-Some-lambda : goal.returns-in-Some-lambda
-returns-in-Some-lambda g c =
-    let s = g.S.Store.state c.args.store.now in
-    let t = g.S.Store.state c.lambda.new.self in
-    let p = c.in-Some.ensures in
-    record {
-      within = p.within;
-      same = p.same;
-      top_name = p.top_name;
-      words_name = p.words_name;
-      moves = λ F d x at.
-          body-done F d s t (held c.args.f.now) c.args.n c.args.depth c.in-Some.k c.in-Some.kept
-          (held c.pop_pair.new.self) p.cases c.in-Some-lambda.m c.saturating_sub.result at c.in-Body.ensures c.saturating_sub.ensures c.in-Some-lambda.ensures;
-    }
+pub returns-in_ok-ok_or-in-Body-clause-moves : goal.returns-in_ok-ok_or-in-Body-clause-moves
+returns-in_ok-ok_or-in-Body-clause-moves g c F d x at =
+    let st = g.S.Store.state in
+    body-done F d (st c.args.store.now) (st c.lambda.new.self) c.args.stack.now.held c.args.n c.args.depth c.in-Some.k c.in-Some.kept
+    c.pop_pair.new.self.held c.in-Some.ensures.0 c.in_ok-ok_or-in-Body.field-0 c.saturating_sub.result at c.in-Body.ensures
+    c.saturating_sub.ensures (rw c.in_ok-ok_or-in-Body.ensures.ok_part at c.lambda.ensures)
 
-pub returns-in-None-lambda : goal.returns-in-None-lambda
-returns-in-None-lambda g c =
-    let s = g.S.Store.state c.args.store.now in
-    let t = g.S.Store.state c.lambda.new.self in
-    let p = c.in-Some.ensures in
-    record {
-      within = p.within;
-      same = p.same;
-      top_name = p.top_name;
-      words_name = p.words_name;
-      moves = λ F d x at.
-          body_full F d s t (held c.args.f.now) c.args.n c.args.depth c.in-Some.k c.in-Some.kept
-          (held c.pop_pair.new.self) p.cases (capacity c.args.f.now) at c.in-Body.ensures c.in-None-lambda.ensures;
-    }
+pub returns-in_err-ok_or-in-Body-clause-moves : goal.returns-in_err-ok_or-in-Body-clause-moves
+returns-in_err-ok_or-in-Body-clause-moves g c F d x at =
+    let st = g.S.Store.state in
+    rw (an_err c.from_residual-in_err-ok_or-in-Body.result c.from_residual-in_err-ok_or-in-Body.ensures.0).1
+    (body_full F d (st c.args.store.now) (st c.lambda.new.self) c.args.stack.now.held c.args.n c.args.depth c.in-Some.k
+    c.in-Some.kept c.pop_pair.new.self.held c.in-Some.ensures.0 c.args.stack.now.capacity at c.in-Body.ensures
+    (rw c.in_err-ok_or-in-Body.ensures.ok_part at c.lambda.ensures))

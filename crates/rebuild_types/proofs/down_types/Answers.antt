@@ -1,56 +1,22 @@
-use Rattle.std.proofs.Common.{refl}
-use Rattle.stack.specs.Frames.{held, capacity}
-use Rattle.stack.proofs.Words.{unmoved}
 use Rattle.rebuild_types.proofs.down_types.Goals as goal
-use Rattle.rebuild_types.proofs.Steps.{no_list, empty_done, into_list, list_stuck}
+use Rattle.lent.proofs.Refused.{an_err}
+use Rattle.rebuild_types.proofs.Steps.{empty_done, into_list, list_stuck}
 
-pub returns-in_default : goal.returns-in_default
-returns-in_default g c =
+pub returns-in-Nil-clause-moves : goal.returns-in-Nil-clause-moves
+returns-in-Nil-clause-moves g c es x at =
     let s = g.S.Store.state c.args.store.now in
-    record {
-      within = c.requires;
-      same = unmoved c.args.f.now;
-      top_name = refl;
-      words_name = refl;
-      moves = λ es x at. absurd (no_list es s s (held c.args.f.now) c.args.list at c.in_default.ensures);
-    }
+    empty_done es s s c.args.stack.now.held c.args.list at
+    (λ bs i. rw (c.in_ok-ok_or.ensures.ok_part, c.in-Nil.is) at (c.view_types.ensures bs i))
 
-pub returns-in-Nil : goal.returns-in-Nil
-returns-in-Nil g c =
+pub returns-in_ok-push_all-in-Cons-clause-moves : goal.returns-in_ok-push_all-in-Cons-clause-moves
+returns-in_ok-push_all-in-Cons-clause-moves g c es x at =
     let s = g.S.Store.state c.args.store.now in
-    record {
-      within = c.requires;
-      same = unmoved c.args.f.now;
-      top_name = refl;
-      words_name = refl;
-      moves = λ es x at.
-          empty_done es s s (held c.args.f.now) c.args.list at (λ bs i. rw c.in-Nil.is at (c.in-Some.ensures bs i));
-    }
+    into_list es s s c.args.stack.now.held c.args.list c.in-Cons.a c.in-Cons.rest c.push_all.new.self.held at
+    (λ bs i. rw (c.in_ok-ok_or.ensures.ok_part, c.in-Cons.is) at (c.view_types.ensures bs i)) c.in_ok-push_all-in-Cons.ensures.0
 
-pub returns-then-push_all : goal.returns-then-push_all
-returns-then-push_all g c =
+pub returns-in_err-push_all-in-Cons-clause-moves : goal.returns-in_err-push_all-in-Cons-clause-moves
+returns-in_err-push_all-in-Cons-clause-moves g c es x at =
     let s = g.S.Store.state c.args.store.now in
-    let p = c.if-push_all.ensures in
-    record {
-      within = p.within;
-      same = p.same;
-      top_name = p.top_name;
-      words_name = p.words_name;
-      moves = λ es x at.
-          into_list es s s (held c.args.f.now) c.args.list c.in-Cons.a c.in-Cons.rest (held c.push_all.new.self) at
-          (λ bs i. rw c.in-Cons.is at (c.in-Some.ensures bs i)) p.cases;
-    }
-
-pub returns-else-push_all : goal.returns-else-push_all
-returns-else-push_all g c =
-    let s = g.S.Store.state c.args.store.now in
-    let p = c.if-push_all.ensures in
-    record {
-      within = p.within;
-      same = p.same;
-      top_name = p.top_name;
-      words_name = p.words_name;
-      moves = λ es x at.
-          list_stuck es s s (held c.args.f.now) c.args.list (capacity c.args.f.now) c.in-Cons.a c.in-Cons.rest at
-          (λ bs i. rw c.in-Cons.is at (c.in-Some.ensures bs i)) p.cases.1;
-    }
+    rw (an_err c.from_residual-in_err-push_all-in-Cons.result c.from_residual-in_err-push_all-in-Cons.ensures.0).1
+    (list_stuck es s s c.args.stack.now.held c.args.list c.args.stack.now.capacity c.in-Cons.a c.in-Cons.rest at
+    (λ bs i. rw (c.in_ok-ok_or.ensures.ok_part, c.in-Cons.is) at (c.view_types.ensures bs i)) c.in_err-push_all-in-Cons.ensures.1)

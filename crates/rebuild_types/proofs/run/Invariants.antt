@@ -1,11 +1,10 @@
-use Rattle.stack.specs.Frames.{held}
 use Rattle.rebuild_types.proofs.Loop.{Running, turn-moves}
 use Rattle.rebuild_types.proofs.run.Given as goal
 
 abbrev pub invariant-loop-turn : goal.invariant-loop-turn
 invariant-loop-turn g l =
-    Running (g.S.Store.state l.initial.store) l.entries l.initial.turn l.initial.f (g.S.Store.state l.store) l.f l.turn
+    Running (g.S.Store.state l.initial.store) l.entries l.initial.turn l.initial.stack (g.S.Store.state l.store) l.stack l.turn
 
 -- the moves to come
 abbrev pub decreases-loop-turn : goal.decreases-loop-turn
-decreases-loop-turn g l = turn-moves (g.S.Store.state l.store).contents (held l.f) l.turn
+decreases-loop-turn g l = turn-moves (g.S.Store.state l.store).contents l.stack.held l.turn

@@ -1,107 +1,51 @@
-use Rattle.std.proofs.Common.{◌∙◌}
-use Rattle.stack.specs.Frames.{held, capacity}
 use Rattle.rebuild_types.proofs.up.Goals as goal
-use Rattle.stack.proofs.Lent.{same_trans, same-capacity}
+use Rattle.lent.proofs.Refused.{an_err}
 use Rattle.rebuild_types.proofs.Steps.{ended, named_done, named_full, head_done, head_stuck, list_done, list_full}
 
-pub returns-in_default : goal.returns-in_default
-returns-in_default g c =
+pub returns-in_default-clause-moves : goal.returns-in_default-clause-moves
+returns-in_default-clause-moves g c es x at =
     let s = g.S.Store.state c.args.store.now in
-    let p = c.in_default.ensures in
-    record {
-      within = p.within;
-      same = p.same;
-      top_name = p.top_name;
-      words_name = p.words_name;
-      moves = λ es x at. ended es s s (held c.args.f.now) c.args.n (held c.pop_pair.new.self) at p.cases.1;
-    }
+    ended es s s c.args.stack.now.held c.args.n c.pop_pair.new.self.held at c.in_default.ensures.1
 
-pub returns-in-Some-type_named : goal.returns-in-Some-type_named
-returns-in-Some-type_named g c =
-    let s = g.S.Store.state c.args.store.now in
-    let t = g.S.Store.state c.type_named.new.self in
-    let p = c.in-Some.ensures in
-    record {
-      within = p.within;
-      same = p.same;
-      top_name = p.top_name;
-      words_name = p.words_name;
-      moves = λ es x at.
-          named_done es s t (held c.args.f.now) c.args.n c.in-Some.k c.in-Some.kept (held c.pop_pair.new.self) p.cases
-          c.in-Some-type_named.a at c.in-Arguments.ensures c.in-Some-type_named.ensures;
-    }
+pub returns-in_ok-ok_or-in-Arguments-clause-moves : goal.returns-in_ok-ok_or-in-Arguments-clause-moves
+returns-in_ok-ok_or-in-Arguments-clause-moves g c es x at =
+    let st = g.S.Store.state in
+    named_done es (st c.args.store.now) (st c.type_named.new.self) c.args.stack.now.held c.args.n c.in-Some.k c.in-Some.kept
+    c.pop_pair.new.self.held c.in-Some.ensures.0 c.in_ok-ok_or-in-Arguments.field-0 at c.in-Arguments.ensures
+    (rw c.in_ok-ok_or-in-Arguments.ensures.ok_part at c.type_named.ensures)
 
-pub returns-in-None : goal.returns-in-None
-returns-in-None g c =
-    let s = g.S.Store.state c.args.store.now in
-    let t = g.S.Store.state c.type_named.new.self in
-    let p = c.in-Some.ensures in
-    record {
-      within = p.within;
-      same = p.same;
-      top_name = p.top_name;
-      words_name = p.words_name;
-      moves = λ es x at.
-          named_full es s t (held c.args.f.now) c.args.n c.in-Some.k c.in-Some.kept (held c.pop_pair.new.self) p.cases
-          (capacity c.args.f.now) at c.in-Arguments.ensures c.in-None.ensures;
-    }
+pub returns-in_err-ok_or-in-Arguments-clause-moves : goal.returns-in_err-ok_or-in-Arguments-clause-moves
+returns-in_err-ok_or-in-Arguments-clause-moves g c es x at =
+    let st = g.S.Store.state in
+    rw (an_err c.from_residual.result c.from_residual.ensures.0).1
+    (named_full es (st c.args.store.now) (st c.type_named.new.self) c.args.stack.now.held c.args.n c.in-Some.k c.in-Some.kept
+    c.pop_pair.new.self.held c.in-Some.ensures.0 c.args.stack.now.capacity at c.in-Arguments.ensures
+    (rw c.in_err-ok_or-in-Arguments.ensures.ok_part at c.type_named.ensures))
 
-pub returns-in-Some-cons_type : goal.returns-in-Some-cons_type
-returns-in-Some-cons_type g c =
+pub returns-in_ok-push_all-in-Head-clause-moves : goal.returns-in_ok-push_all-in-Head-clause-moves
+returns-in_ok-push_all-in-Head-clause-moves g c es x at =
     let s = g.S.Store.state c.args.store.now in
-    let t = g.S.Store.state c.cons_type.new.self in
-    let p = c.in-Some.ensures in
-    record {
-      within = p.within;
-      same = p.same;
-      top_name = p.top_name;
-      words_name = p.words_name;
-      moves = λ es x at.
-          list_done es s t (held c.args.f.now) c.args.n c.in-Some.k c.in-Some.kept (held c.pop_pair.new.self) p.cases
-          c.in-Some-cons_type.list at c.in-Tail.ensures c.in-Some-cons_type.ensures;
-    }
+    head_done es s s c.args.stack.now.held c.args.n c.in-Some.k c.in-Some.kept c.pop_pair.new.self.held c.in-Some.ensures.0
+    c.push_all.new.self.held at c.in-Head.ensures c.in_ok-push_all-in-Head.ensures.0
 
-pub returns-in-None-cons_type : goal.returns-in-None-cons_type
-returns-in-None-cons_type g c =
+pub returns-in_err-push_all-in-Head-clause-moves : goal.returns-in_err-push_all-in-Head-clause-moves
+returns-in_err-push_all-in-Head-clause-moves g c es x at =
     let s = g.S.Store.state c.args.store.now in
-    let t = g.S.Store.state c.cons_type.new.self in
-    let p = c.in-Some.ensures in
-    record {
-      within = p.within;
-      same = p.same;
-      top_name = p.top_name;
-      words_name = p.words_name;
-      moves = λ es x at.
-          list_full es s t (held c.args.f.now) c.args.n c.in-Some.k c.in-Some.kept (held c.pop_pair.new.self) p.cases
-          (capacity c.args.f.now) at c.in-Tail.ensures c.in-None-cons_type.ensures;
-    }
+    rw (an_err c.from_residual-in_err-push_all-in-Head.result c.from_residual-in_err-push_all-in-Head.ensures.0).1
+    (head_stuck es s s c.args.stack.now.held c.args.n c.in-Some.k c.in-Some.kept c.pop_pair.new.self.held c.in-Some.ensures.0
+    c.args.stack.now.capacity at (rw c.in-Some.ensures.1 at c.in_err-push_all-in-Head.ensures.1))
 
-pub returns-then-push_all : goal.returns-then-push_all
-returns-then-push_all g c =
-    let s = g.S.Store.state c.args.store.now in
-    let p = c.in-Some.ensures in
-    let q = c.if-push_all.ensures in
-    record {
-      within = q.within;
-      same = same_trans p.same q.same;
-      top_name = q.top_name ∙ p.top_name;
-      words_name = q.words_name ∙ p.words_name;
-      moves = λ es x at.
-          head_done es s s (held c.args.f.now) c.args.n c.in-Some.k c.in-Some.kept (held c.pop_pair.new.self) p.cases
-          (held c.push_all.new.self) at c.in-Head.ensures q.cases;
-    }
+pub returns-in_ok-ok_or-in-Tail-clause-moves : goal.returns-in_ok-ok_or-in-Tail-clause-moves
+returns-in_ok-ok_or-in-Tail-clause-moves g c es x at =
+    let st = g.S.Store.state in
+    list_done es (st c.args.store.now) (st c.cons_type.new.self) c.args.stack.now.held c.args.n c.in-Some.k c.in-Some.kept
+    c.pop_pair.new.self.held c.in-Some.ensures.0 c.in_ok-ok_or-in-Tail.field-0 at c.in-Tail.ensures
+    (rw c.in_ok-ok_or-in-Tail.ensures.ok_part at c.cons_type.ensures)
 
-pub returns-else-push_all : goal.returns-else-push_all
-returns-else-push_all g c =
-    let s = g.S.Store.state c.args.store.now in
-    let p = c.in-Some.ensures in
-    let q = c.if-push_all.ensures in
-    record {
-      within = q.within;
-      same = same_trans p.same q.same;
-      top_name = q.top_name ∙ p.top_name;
-      words_name = q.words_name ∙ p.words_name;
-      moves = λ es x at.
-          head_stuck es s s (held c.args.f.now) c.args.n c.in-Some.k c.in-Some.kept (held c.pop_pair.new.self) p.cases
-          (capacity c.args.f.now) at (rw (same-capacity p.same) at q.cases.1);
-    }
+pub returns-in_err-ok_or-in-Tail-clause-moves : goal.returns-in_err-ok_or-in-Tail-clause-moves
+returns-in_err-ok_or-in-Tail-clause-moves g c es x at =
+    let st = g.S.Store.state in
+    rw (an_err c.from_residual-in_err-ok_or-in-Tail.result c.from_residual-in_err-ok_or-in-Tail.ensures.0).1
+    (list_full es (st c.args.store.now) (st c.cons_type.new.self) c.args.stack.now.held c.args.n c.in-Some.k c.in-Some.kept
+    c.pop_pair.new.self.held c.in-Some.ensures.0 c.args.stack.now.capacity at c.in-Tail.ensures
+    (rw c.in_err-ok_or-in-Tail.ensures.ok_part at c.cons_type.ensures))

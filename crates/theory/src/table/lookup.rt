@@ -11,7 +11,7 @@ ghost use Rattle.theory.specs.Kept.{theory_of};
 ghost use Rattle.theory.specs.Lookups.{DefAt, SeqAt};
 
 use super::Decls;
-use crate::row::{Kind, Wanted};
+use crate::declaration::Declaration;
 use names::is_named;
 use signature::Signature;
 use store::Store;
@@ -22,10 +22,10 @@ impl Decls<'_> {
         ensures stays { Stays (S.state store.old) (S.state store.new) }
         ensures found { (th : Theory) (w : Word) → Knows self.now (S.state store.old).contents th → (S.state store.old).contents.word name ≡ some w → Finds (DefAt (S.state store.old).contents) (find_def th w) result }
     {
-        match self.find(store, Wanted::Definitions, name) {
-            Some(def) => Some((def.first, def.second)),
-            None => None,
-        }
+        self.find(store, name, |declaration| match declaration {
+            Declaration::Definition { ty, body, .. } => Some((ty, body)),
+            _ => None,
+        })
     }
 
     // The list of assumptions and the conclusion of the axiom or theorem of this name.
@@ -34,11 +34,11 @@ impl Decls<'_> {
         ensures found { (th : Theory) (w : Word) → Knows self.now (S.state store.old).contents th → (S.state store.old).contents.word name ≡ some w → Finds (SeqAt (S.state store.old).contents) (known_seq th w) result }
     {
         let no_hyps = store.empty();
-        match self.find(store, Wanted::Sequents, name) {
-            Some(row) if row.kind == Kind::Axiom => Some((no_hyps, row.second)),
-            Some(row) => Some((row.first, row.second)),
-            None => None,
-        }
+        self.find(store, name, |declaration| match declaration {
+            Declaration::Axiom { concl, .. } => Some((no_hyps, concl)),
+            Declaration::Theorem { hyps, concl, .. } => Some((hyps, concl)),
+            _ => None,
+        })
     }
 }
 
@@ -52,22 +52,22 @@ impl<S: Store> Signature<S> for Decls<'_> {
         if is_named(store, name, b"->") {
             return Some(2);
         }
-        match self.find(store, Wanted::Types, name) {
-            Some(_) => Some(0),
-            None => None,
-        }
+        self.find(store, name, |declaration| match declaration {
+            Declaration::Type { .. } => Some(0),
+            _ => None,
+        })
     }
 
     fn const_type(&self, store: &mut S, name: u64) -> Option<u64> {
         if is_named(store, name, b"=") {
-            return Some(self.eq_type);
+            return Some(self.ground.equality_type);
         }
         if is_named(store, name, b"@") {
-            return Some(self.choice_type);
+            return Some(self.ground.choice_type);
         }
-        match self.find(store, Wanted::Constants, name) {
-            Some(row) => Some(row.first),
-            None => None,
-        }
+        self.find(store, name, |declaration| match declaration {
+            Declaration::Constant { ty, .. } | Declaration::Definition { ty, .. } => Some(ty),
+            _ => None,
+        })
     }
 }

@@ -2,19 +2,17 @@ use Rattle.std.proofs.Common.{◌≡◌, List, length}
 use mathlib.Core.Option.{some}
 use Rattle.hol.specs.Syntax.{Tm}
 use Rattle.hol.specs.Kernel.{in_hyps}
-use Rattle.stack.specs.Frames.{held}
 use Rattle.hyps.specs.Sifting.{Stand, poured}
-use Rattle.hyps.proofs.Moving.{Moves}
 use Rattle.hyps.proofs.Gathering.{Gathering}
 use Rattle.hyps.proofs.images.gather_images.Given as goal
 
--- the images of what is still on the frame, put before the list so far, come to the list that is wanted
+-- the images of what is still on the stack, put before the list so far, come to the list that is wanted
 abbrev pub invariant-loop-t : goal.invariant-loop-t
 invariant-loop-t g l =
     let s = g.S.Store.state l.initial.store in
-    Moves l.initial.f l.f × ((h : Tm → Tm) (us vs : List Tm) → g.M.TermMap.does l.map s.contents h
-    → Stand s.contents (held l.initial.f) us → s.contents.terms l.start ≡ some vs
-    → Gathering in_hyps h s (g.S.Store.state l.store) us (held l.f) l.list (poured in_hyps h us vs))
+    (l.stack.capacity ≡ l.initial.stack.capacity) × ((h : Tm → Tm) (us vs : List Tm) → g.M.TermMap.does l.map s.contents h
+    → Stand s.contents l.initial.stack.held us → s.contents.terms l.start ≡ some vs
+    → Gathering in_hyps h s (g.S.Store.state l.store) us l.stack.held l.list (poured in_hyps h us vs))
 
 abbrev pub decreases-loop-t : goal.decreases-loop-t
-decreases-loop-t g l = length (held l.f)
+decreases-loop-t g l = length l.stack.held

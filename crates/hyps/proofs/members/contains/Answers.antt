@@ -2,12 +2,12 @@ use Rattle.store.proofs.Growth.{stays_on}
 use Rattle.hyps.proofs.Seeking.{found, passed, ended, fewer}
 use Rattle.hyps.proofs.members.contains.Goals as goal
 
-pub view-requires : goal.view-requires
-view-requires g c =
+pub terms_at-requires : goal.terms_at-requires
+terms_at-requires g c =
     let (u, p) = c.requires.term in
     let (us, q) = c.requires.list in
     let k = c.loop-h.invariant u us p q in
-    record { stands = (k.ahead, k.ahead_is) }
+    (k.ahead, k.ahead_is)
 
 pub returns-then-same : goal.returns-then-same
 returns-then-same g c =

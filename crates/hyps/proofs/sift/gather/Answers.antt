@@ -1,6 +1,5 @@
 use Rattle.std.proofs.lemmas.Result.{err_from_is_err_and}
 use Rattle.hyps.proofs.Leaving.{leaves_kept}
-use Rattle.hyps.proofs.Moving.{moves_on}
 use Rattle.hyps.proofs.Gathering.{taken, next, no_room, ended}
 use Rattle.hyps.proofs.sift.gather.Goals as goal
 
@@ -9,8 +8,8 @@ put_before-requires g c =
     let (p, h) = c.requires.test in
     let (us, st) = c.requires.stand in
     let (vs, e) = c.requires.list in
-    let k = c.loop-t.invariant.1 p us vs h st e in
-    let v = taken p (λ u. u) k c.in-Some.ensures.cases in
+    let k = c.loop-t.invariant p us vs h st e in
+    let v = taken p (λ u. u) k c.in-Some.ensures.0 in
     record {
       test = (p, leaves_kept k.grows.keeps h);
       term = (v.first, v.first_is);
@@ -18,44 +17,21 @@ put_before-requires g c =
     }
 
 pub returns-in_err-list : goal.returns-in_err-list
-returns-in_err-list g c =
-    let (m, at) = c.loop-t.invariant in
-    let q = c.in-Some.ensures in
-    let n = moves_on m q.within q.same q.top_name q.words_name in
-    record {
-      within = n.within;
-      same = n.same;
-      top_name = n.top_name;
-      words_name = n.words_name;
-      cases = λ p us vs h st e.
-          let k = at p us vs h st e in
-          let v = taken p (λ u. u) k q.cases in
-          let w = err_from_is_err_and c.from_residual.result c.from_residual.ensures.1 in
-          rw w.1 (no_room p (λ u. u) k q.cases
-          (c.in_err-list.ensures p v.first k.list (leaves_kept k.grows.keeps h) v.first_is k.list_is));
-    }
+returns-in_err-list g c p us vs h st e =
+    let q = c.in-Some.ensures.0 in
+    let k = c.loop-t.invariant p us vs h st e in
+    let v = taken p (λ u. u) k q in
+    let w = err_from_is_err_and c.from_residual.result c.from_residual.ensures.1 in
+    rw w.1 (no_room p (λ u. u) k q
+    (c.in_err-list.ensures p v.first k.list (leaves_kept k.grows.keeps h) v.first_is k.list_is))
 
 pub loop-t-preserved : goal.loop-t-preserved
-loop-t-preserved g c =
-    let (m, at) = c.loop-t.invariant in
-    let q = c.in-Some.ensures in (
-      moves_on m q.within q.same q.top_name q.words_name,
-      λ p us vs h st e.
-          let k = at p us vs h st e in
-          let v = taken p (λ u. u) k q.cases in
-          next p (λ u. u) k q.cases
-          (c.in_ok-list.ensures p v.first k.list (leaves_kept k.grows.keeps h) v.first_is k.list_is),
-    )
+loop-t-preserved g c p us vs h st e =
+    let q = c.in-Some.ensures.0 in
+    let k = c.loop-t.invariant p us vs h st e in
+    let v = taken p (λ u. u) k q in
+    next p (λ u. u) k q
+    (c.in_ok-list.ensures p v.first k.list (leaves_kept k.grows.keeps h) v.first_is k.list_is)
 
 pub returns : goal.returns
-returns g c =
-    let (m, at) = c.loop-t.invariant in
-    let q = c.in_default.ensures in
-    let n = moves_on m q.within q.same q.top_name q.words_name in
-    record {
-      within = n.within;
-      same = n.same;
-      top_name = n.top_name;
-      words_name = n.words_name;
-      cases = λ p us vs h st e. ended p (λ u. u) (at p us vs h st e) q.cases.1;
-    }
+returns g c p us vs h st e = ended p (λ u. u) (c.loop-t.invariant p us vs h st e) c.in_default.ensures.1

@@ -1,20 +1,18 @@
 use Rattle.std.proofs.Common.{◌≡◌, Bool, List, length}
 use mathlib.Core.Option.{some}
 use Rattle.hol.specs.Syntax.{Tm}
-use Rattle.stack.specs.Frames.{held}
 use Rattle.hyps.specs.Sifting.{Stand, poured}
 use Rattle.hyps.specs.Leaving.{Leaves}
-use Rattle.hyps.proofs.Moving.{Moves}
 use Rattle.hyps.proofs.Gathering.{Gathering}
 use Rattle.hyps.proofs.sift.gather.Given as goal
 
--- what is still on the frame, put before the list so far, comes to the list that is wanted
+-- what is still on the stack, put before the list so far, comes to the list that is wanted
 abbrev pub invariant-loop-t : goal.invariant-loop-t
 invariant-loop-t g l =
     let s = g.S.Store.state l.initial.store in
-    Moves l.initial.f l.f × ((p : Tm → List Tm → Bool) (us vs : List Tm) → Leaves s.contents l.left_out p
-    → Stand s.contents (held l.initial.f) us → s.contents.terms l.start ≡ some vs
-    → Gathering p (λ u. u) s (g.S.Store.state l.store) us (held l.f) l.list (poured p (λ u. u) us vs))
+    (p : Tm → List Tm → Bool) (us vs : List Tm) → Leaves s.contents l.left_out p
+    → Stand s.contents l.initial.stack.held us → s.contents.terms l.start ≡ some vs
+    → Gathering p (λ u. u) s (g.S.Store.state l.store) us l.stack.held l.list (poured p (λ u. u) us vs)
 
 abbrev pub decreases-loop-t : goal.decreases-loop-t
-decreases-loop-t g l = length (held l.f)
+decreases-loop-t g l = length l.stack.held

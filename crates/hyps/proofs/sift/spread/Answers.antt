@@ -1,29 +1,29 @@
+use Rattle.std.proofs.Common.{refl, ◌∙◌}
+use Rattle.std.proofs.lemmas.Result.{err_from_is_err_and}
 use Rattle.store.proofs.Growth.{keeps_same}
 use Rattle.hyps.proofs.Seeking.{fewer}
-use Rattle.hyps.proofs.Moving.{moves_none, moves_on}
 use Rattle.hyps.proofs.Spreading.{start, next, full, ended}
 use Rattle.hyps.proofs.sift.spread.Goals as goal
 
 pub loop-h-init : goal.loop-h-init
-loop-h-init g c = (moves_none c.args.f.now c.requires.within, λ us e. start c.requires.empty e)
+loop-h-init g c = (refl, λ us e. start c.requires.empty e)
 
-pub view-requires : goal.view-requires
-view-requires g c =
+pub terms_at-requires : goal.terms_at-requires
+terms_at-requires g c =
     let (us, e) = c.requires.list in
     let k = c.loop-h.invariant.1 us e in
-    record { stands = (k.ahead, k.ahead_is) }
+    (k.ahead, k.ahead_is)
 
-pub returns-then-not-push : goal.returns-then-not-push
-returns-then-not-push g c =
-    let p = c.if-not-push.ensures in
-    let (m, at) = c.loop-h.invariant in
-    let n = moves_on m p.within p.same p.top_name p.words_name in
+pub returns-in_err-push : goal.returns-in_err-push
+returns-in_err-push g c =
+    let (same, at) = c.loop-h.invariant in
+    let q = c.in_err-push.ensures in
     record {
-      within = n.within;
-      same = n.same;
-      top_name = n.top_name;
-      words_name = n.words_name;
-      cases = λ us e. let k = at us e in full k m (c.in-Cons.ensures k.ahead k.ahead_is) p.cases.1;
+      capacity = rw (q.0, same) refl;
+      cases = λ us e.
+          let k = at us e in
+          let w = err_from_is_err_and c.from_residual.result c.from_residual.ensures.1 in
+          rw (w.1, ← same) (full k (c.in-Cons.ensures k.ahead k.ahead_is) q.1);
     }
 
 pub loop-h-smaller : goal.loop-h-smaller
@@ -34,19 +34,11 @@ loop-h-smaller g c =
 
 pub loop-h-preserved : goal.loop-h-preserved
 loop-h-preserved g c =
-    let p = c.if-not-push.ensures in
-    let (m, at) = c.loop-h.invariant in (
-      moves_on m p.within p.same p.top_name p.words_name,
-      λ us e. let k = at us e in next k (c.in-Cons.ensures k.ahead k.ahead_is) p.cases,
-    )
+    let (same, at) = c.loop-h.invariant in
+    let q = c.in_ok-push.ensures in
+    (q.1 ∙ same, λ us e. let k = at us e in next k (c.in-Cons.ensures k.ahead k.ahead_is) q.0)
 
 pub returns : goal.returns
 returns g c =
-    let (m, at) = c.loop-h.invariant in
-    record {
-      within = m.within;
-      same = m.same;
-      top_name = m.top_name;
-      words_name = m.words_name;
-      cases = λ us e. let k = at us e in ended k (c.in_default.ensures k.ahead k.ahead_is);
-    }
+    let (same, at) = c.loop-h.invariant in
+    record { capacity = same; cases = λ us e. let k = at us e in ended k (c.in_default.ensures k.ahead k.ahead_is) }

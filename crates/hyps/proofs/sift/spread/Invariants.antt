@@ -2,15 +2,14 @@ use Rattle.std.proofs.Common.{◌≡◌, List}
 use mathlib.Core.Option.{some}
 use Rattle.hol.specs.Syntax.{Tm}
 use Rattle.hyps.proofs.Seeking.{members}
-use Rattle.hyps.proofs.Moving.{Moves}
 use Rattle.hyps.proofs.Spreading.{Spreading}
 use Rattle.hyps.proofs.sift.spread.Given as goal
 
--- the terms passed lie on the frame
+-- the terms passed lie on the stack
 abbrev pub invariant-loop-h : goal.invariant-loop-h
 invariant-loop-h g l =
     let c = (g.S.Store.state l.store).contents in
-    Moves l.initial.f l.f × ((us : List Tm) → c.terms l.hs ≡ some us → Spreading c us l.f l.rest)
+    (l.stack.capacity ≡ l.initial.stack.capacity) × ((us : List Tm) → c.terms l.hs ≡ some us → Spreading c us l.stack l.rest)
 
 abbrev pub decreases-loop-h : goal.decreases-loop-h
 decreases-loop-h g l = members (g.S.Store.state l.store).contents l.rest

@@ -11,7 +11,9 @@ returns-then-same_type g c =
     let k = a.stays.grows.keeps in
     record {
       stays = stays_on a.stays b.stays;
-      same = λ p q h i. rw (sym (types_compared h.ty i.ty a.sound a.complete) ∙ c.if-same_type.true) (same_decides p.right q.left (k.term _ _ h.right) (k.term _ _ i.left) b.sound b.complete);
+      same = λ p q h i.
+          rw (sym (types_compared h.ty i.ty a.sound a.complete) ∙ c.if-same_type.true)
+          (same_decides p.right q.left (k.term _ _ h.right) (k.term _ _ i.left) b.sound b.complete);
     }
 
 pub returns-else-same_type : goal.returns-else-same_type
@@ -19,5 +21,5 @@ returns-else-same_type g c =
     let a = c.same_type.ensures in
     record {
       stays = a.stays;
-      same = λ p q h i. rw (sym (types_compared h.ty i.ty a.sound a.complete) ∙ c.if-same_type.false);
+      same = λ p q h i. rw (sym (types_compared h.ty i.ty a.sound a.complete) ∙ c.if-same_type.false) c.if-same_type.false;
     }

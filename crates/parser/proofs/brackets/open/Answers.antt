@@ -1,115 +1,58 @@
-use Rattle.std.proofs.Common.{refl, rules}
+use Rattle.std.proofs.Common.{refl}
+use Rattle.parser.specs.declared.turn.Opened.TheVariants.{Whole, Under}
 use Rattle.hol.specs.Text.{read_free, read_const}
 use Rattle.parser.specs.declared.turn.Form.TheVariants.{Free, Constant, Lambda}
-use Rattle.parser_types.proofs.Refused.{refused}
-use Rattle.parser.proofs.Opens.{formless, behind_form, form_short, form_read, form_unread, application_next, lambda_next, lambda_none}
+use Rattle.lent.proofs.Refused.{refused}
+use Rattle.parser.proofs.Opens.{formless, behind_form, mapped, form_short, form_reading, application_next, lambda_reading}
 use Rattle.parser.proofs.brackets.open.Goals as goal
 
-pub returns-in_default : goal.returns-in_default
-returns-in_default g c = record { stack = search rules; cases = λ ts qs e. formless ts qs e c.in_default.ensures }
+pub returns-in_err-read_free-in-Some-Free : goal.returns-in_err-read_free-in-Some-Free
+returns-in_err-read_free-in-Some-Free g c = λ ts qs e.
+    let f = rw c.in-Some-Free.field-0-is at c.in-Some-Free.ensures in
+    let (us, i, j) = behind_form ts qs e Free f in
+    refused _ c.from_residual.result c.from_residual.ensures.0
+    (form_short ts qs e Free f (c.in_err-read_free-in-Some-Free.ensures us qs j))
 
-pub returns-in_err-read-in-Free : goal.returns-in_err-read-in-Free
-returns-in_err-read-in-Free g c =
-    let f = rw c.in-Free.is at c.in-Some.ensures in
-    let r = c.in_err-read-in-Free.ensures in
-    record {
-      stack = r.stack;
-      cases = λ ts qs e.
-          let (us, i, j) = behind_form ts qs e Free f in
-          refused _ c.from_residual.result c.from_residual.ensures.0 (form_short ts qs e Free f (r.cases us qs j));
-    }
+pub returns-in_ok-read_free-in-Some-Free : goal.returns-in_ok-read_free-in-Some-Free
+returns-in_ok-read_free-in-Some-Free g c = λ ts qs e.
+    let f = rw c.in-Some-Free.field-0-is at c.in-Some-Free.ensures in
+    let (us, i, j) = behind_form ts qs e Free f in
+    let o = c.in_ok-read_free-in-Some-Free.field-0 in
+    rw (mapped o Whole c.map.result c.map.ensures.cases)
+    (form_reading ts qs e Free f read_free (λ vs n xs. refl) _ _ _ o (c.in_ok-read_free-in-Some-Free.ensures us qs j))
 
-pub returns-in_err-read-in-Constant : goal.returns-in_err-read-in-Constant
-returns-in_err-read-in-Constant g c =
-    let f = rw c.in-Constant.is at c.in-Some.ensures in
-    let r = c.in_err-read-in-Constant.ensures in
-    record {
-      stack = r.stack;
-      cases = λ ts qs e.
-          let (us, i, j) = behind_form ts qs e Constant f in
-          refused _ c.from_residual-in_err-read-in-Constant.result c.from_residual-in_err-read-in-Constant.ensures.0
-          (form_short ts qs e Constant f (r.cases us qs j));
-    }
+pub returns-in_err-read_constant-in-Some-Constant : goal.returns-in_err-read_constant-in-Some-Constant
+returns-in_err-read_constant-in-Some-Constant g c = λ ts qs e.
+    let f = rw c.in-Some-Constant.field-0-is at c.in-Some-Constant.ensures in
+    let (us, i, j) = behind_form ts qs e Constant f in
+    refused _ c.from_residual-in_err-read_constant-in-Some-Constant.result c.from_residual-in_err-read_constant-in-Some-Constant.ensures.0
+    (form_short ts qs e Constant f (c.in_err-read_constant-in-Some-Constant.ensures us qs j))
 
-pub returns-in_err-bound-in-Lambda : goal.returns-in_err-bound-in-Lambda
-returns-in_err-bound-in-Lambda g c =
-    let f = rw c.in-Lambda.is at c.in-Some.ensures in
-    let r = c.in_err-bound-in-Lambda.ensures in
-    record {
-      stack = r.stack;
-      cases = λ ts qs e.
-          let (us, i, j) = behind_form ts qs e Lambda f in
-          refused _ c.from_residual-in_err-bound-in-Lambda.result c.from_residual-in_err-bound-in-Lambda.ensures.0
-          (form_short ts qs e Lambda f (r.cases us qs j));
-    }
+pub returns-in_ok-read_constant-in-Some-Constant : goal.returns-in_ok-read_constant-in-Some-Constant
+returns-in_ok-read_constant-in-Some-Constant g c = λ ts qs e.
+    let f = rw c.in-Some-Constant.field-0-is at c.in-Some-Constant.ensures in
+    let (us, i, j) = behind_form ts qs e Constant f in
+    let o = c.in_ok-read_constant-in-Some-Constant.field-0 in
+    rw (mapped o Whole c.map-in-Some-Constant.result c.map-in-Some-Constant.ensures.cases)
+    (form_reading ts qs e Constant f read_const (λ vs n xs. refl) _ _ _ o (c.in_ok-read_constant-in-Some-Constant.ensures us qs j))
 
-pub returns-in-Some-read : goal.returns-in-Some-read
-returns-in-Some-read g c =
-    let f = rw c.in-Free.is at c.in-Some.ensures in
-    let r = rw c.in-Some-read.is at c.in_ok-read-in-Free.ensures in
-    record {
-      stack = r.stack;
-      cases = λ ts qs e.
-          let (us, i, j) = behind_form ts qs e Free f in
-          form_read ts qs e Free f read_free (λ vs n xs. refl) (r.cases us qs j);
-    }
+pub returns-in-Some-Application : goal.returns-in-Some-Application
+returns-in-Some-Application g c = λ ts qs e. application_next ts qs e (rw c.in-Some-Application.field-0-is at c.in-Some-Application.ensures)
+
+pub returns-in_err-read_binder-in-Some-Lambda : goal.returns-in_err-read_binder-in-Some-Lambda
+returns-in_err-read_binder-in-Some-Lambda g c = λ ts qs e.
+    let f = rw c.in-Some-Lambda.field-0-is at c.in-Some-Lambda.ensures in
+    let (us, i, j) = behind_form ts qs e Lambda f in
+    refused _ c.from_residual-in_err-read_binder-in-Some-Lambda.result c.from_residual-in_err-read_binder-in-Some-Lambda.ensures.0
+    (form_short ts qs e Lambda f (c.in_err-read_binder-in-Some-Lambda.ensures us qs j))
+
+pub returns-in_ok-read_binder-in-Some-Lambda : goal.returns-in_ok-read_binder-in-Some-Lambda
+returns-in_ok-read_binder-in-Some-Lambda g c = λ ts qs e.
+    let f = rw c.in-Some-Lambda.field-0-is at c.in-Some-Lambda.ensures in
+    let (us, i, j) = behind_form ts qs e Lambda f in
+    let o = c.in_ok-read_binder-in-Some-Lambda.field-0 in
+    rw (mapped o Under c.map-in-Some-Lambda.result c.map-in-Some-Lambda.ensures.cases)
+    (lambda_reading ts qs e _ _ _ o f (c.in_ok-read_binder-in-Some-Lambda.ensures us qs j))
 
 pub returns-in-None : goal.returns-in-None
-returns-in-None g c =
-    let f = rw c.in-Free.is at c.in-Some.ensures in
-    let r = rw c.in-None.is at c.in_ok-read-in-Free.ensures in
-    record {
-      stack = r.stack;
-      cases = λ ts qs e.
-          let (us, i, j) = behind_form ts qs e Free f in
-          form_unread ts qs e Free f read_free (λ vs n xs. refl) (r.cases us qs j);
-    }
-
-pub returns-in-Some-read-2 : goal.returns-in-Some-read-2
-returns-in-Some-read-2 g c =
-    let f = rw c.in-Constant.is at c.in-Some.ensures in
-    let r = rw c.in-Some-read-2.is at c.in_ok-read-in-Constant.ensures in
-    record {
-      stack = r.stack;
-      cases = λ ts qs e.
-          let (us, i, j) = behind_form ts qs e Constant f in
-          form_read ts qs e Constant f read_const (λ vs n xs. refl) (r.cases us qs j);
-    }
-
-pub returns-in-None-read : goal.returns-in-None-read
-returns-in-None-read g c =
-    let f = rw c.in-Constant.is at c.in-Some.ensures in
-    let r = rw c.in-None-read.is at c.in_ok-read-in-Constant.ensures in
-    record {
-      stack = r.stack;
-      cases = λ ts qs e.
-          let (us, i, j) = behind_form ts qs e Constant f in
-          form_unread ts qs e Constant f read_const (λ vs n xs. refl) (r.cases us qs j);
-    }
-
-pub returns-in-Application : goal.returns-in-Application
-returns-in-Application g c =
-    let f = rw c.in-Application.is at c.in-Some.ensures in
-    record { stack = search rules; cases = λ ts qs e. application_next ts qs e f }
-
-pub returns-in-Some-bound : goal.returns-in-Some-bound
-returns-in-Some-bound g c =
-    let f = rw c.in-Lambda.is at c.in-Some.ensures in
-    let r = rw c.in-Some-bound.is at c.in_ok-bound-in-Lambda.ensures in
-    record {
-      stack = r.stack;
-      cases = λ ts qs e.
-          let (us, i, j) = behind_form ts qs e Lambda f in
-          lambda_next ts qs e f (r.cases us qs j);
-    }
-
-pub returns-in-None-bound : goal.returns-in-None-bound
-returns-in-None-bound g c =
-    let f = rw c.in-Lambda.is at c.in-Some.ensures in
-    let r = rw c.in-None-bound.is at c.in_ok-bound-in-Lambda.ensures in
-    record {
-      stack = r.stack;
-      cases = λ ts qs e.
-          let (us, i, j) = behind_form ts qs e Lambda f in
-          lambda_none ts qs e f (r.cases us qs j);
-    }
+returns-in-None g c = λ ts qs e. formless ts qs e c.in-None.ensures

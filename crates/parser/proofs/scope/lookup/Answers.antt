@@ -1,25 +1,24 @@
-use Rattle.std.proofs.Common.{◌≡◌, ◌-◌, arith}
-use Rattle.stack.proofs.Words.{popped}
-use Rattle.parser.proofs.Lookup.{start, passed, found, missing}
+use Rattle.std.proofs.Common.{arith}
+use Rattle.std.proofs.lemmas.Iterator.Adapters.{YieldsList-from_rev_slice}
+use Rattle.std.proofs.lemmas.Iterator.Consumers.{YieldsList-turn, YieldsList-end}
+use Rattle.std.proofs.lemmas.List.{drop_all, length_push}
+use Rattle.parser.proofs.Lookup.{next_left, passed, found, missing}
 use Rattle.parser.proofs.scope.lookup.Goals as goal
-
-pub loop-at-init : goal.loop-at-init
-loop-at-init g c = (c.requires.low, omega arith, λ xs h. start h)
-
-pub loop-at-preserved : goal.loop-at-preserved
-loop-at-preserved g c =
-    let f = c.args.names.now in
-    let e = popped f.words.now f.base c.loop-at.at (omega arith) (omega arith) in
-    (omega arith, omega arith, λ xs h. passed (rw e at (c.loop-at.invariant.2 xs h)) c.if-is_named.ensures)
 
 pub returns-then-is_named : goal.returns-then-is_named
 returns-then-is_named g c = λ xs h.
-    let f = c.args.names.now in
-    let e = popped f.words.now f.base c.loop-at.at (omega arith) (omega arith) in
-    found (rw e at (c.loop-at.invariant.2 xs h)) c.if-is_named.ensures
+    let y = YieldsList-turn (YieldsList-from_rev_slice c.as_slice.result.now cc) c.loop-name.yielded _ c.loop-name.yielded_by _ _ c.in-Some.name c.in-Some.is c.next.ensures.steps in
+    let e = next_left c.args.names.now.held c.loop-name.outwards c.in-Some.name.now (rw (← c.as_slice.ensures, c.loop-name.invariant.0) y) in
+    found (rw e at (c.loop-name.invariant.1 xs h)) c.if-is_named.ensures
+
+pub loop-name-preserved : goal.loop-name-preserved
+loop-name-preserved g c =
+    let y = YieldsList-turn (YieldsList-from_rev_slice c.as_slice.result.now cc) c.loop-name.yielded _ c.loop-name.yielded_by _ _ c.in-Some.name c.in-Some.is c.next.ensures.steps in
+    let e = next_left c.args.names.now.held c.loop-name.outwards c.in-Some.name.now (rw (← c.as_slice.ensures, c.loop-name.invariant.0) y) in
+    (omega (arith, length_push c.loop-name.yielded c.in-Some.name), λ xs h. passed (rw e at (c.loop-name.invariant.1 xs h)) c.if-is_named.ensures)
 
 pub returns : goal.returns
 returns g c = λ xs h.
-    let f = c.args.names.now in
-    let e : c.loop-at.at - f.base ≡ 0 = omega arith in
-    missing (rw e at (c.loop-at.invariant.2 xs h))
+    let y = YieldsList-end (YieldsList-from_rev_slice c.as_slice.result.now cc) c.loop-name.yielded _ c.loop-name.yielded_by _ _ c.in-None.is c.next.ensures.steps in
+    let e = drop_all c.loop-name.outwards c.args.names.now.held (omega (arith, rw c.as_slice.ensures at y.1)) in
+    missing (rw e at (c.loop-name.invariant.1 xs h))

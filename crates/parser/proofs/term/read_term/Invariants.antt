@@ -4,21 +4,19 @@ use mathlib.Core.Option.{none}
 use Rattle.hol.specs.Text.{Token, closes, Sexp, read_term}
 use Rattle.reader.specs.Flat.{flat, cost, depth}
 use Rattle.reader.specs.Next.{stream}
-use Rattle.stack.specs.Frames.{held}
-use Rattle.stack.proofs.Lent.{Lent}
 use Rattle.parser.specs.Machine.{load}
-use Rattle.parser.proofs.Loop.{Way}
+use Rattle.parser.proofs.Loop.{WayOn}
 use Rattle.parser.proofs.term.read_term.Given as goal
 
 abbrev pub invariant-loop-turn : goal.invariant-loop-turn
 invariant-loop-turn g l =
-    Lent l.initial.f l.f × Lent l.initial.names l.names
+    (l.pending.capacity ≡ l.initial.pending.capacity) × (l.names.capacity ≡ l.initial.names.capacity)
     × ((n : ℕ) (u : Sexp) (qs : List Token) → stream l.initial.tokens ≡ flat u ++ qs → depth u ≤ n
-    → Way (g.S.Store.state l.initial.store) (g.S.Store.state l.store) (held l.f) (held l.names) (stream l.tokens) qs
+    → WayOn (g.S.Store.state l.initial.store) (g.S.Store.state l.store) l.pending.held l.names.held (stream l.tokens) qs
     (read_term n [] u) (cost u) l.turn)
     × ((qs : List Token) → stream l.initial.tokens ≡ closes ∷ qs
-    → Way (g.S.Store.state l.initial.store) (g.S.Store.state l.store) (held l.f) (held l.names) (stream l.tokens) qs
+    → WayOn (g.S.Store.state l.initial.store) (g.S.Store.state l.store) l.pending.held l.names.held (stream l.tokens) qs
     none 0 l.turn)
 
 abbrev pub decreases-loop-turn : goal.decreases-loop-turn
-decreases-loop-turn g l = load l.turn (held l.f) (stream l.tokens)
+decreases-loop-turn g l = load l.turn l.pending.held (stream l.tokens)

@@ -1,148 +1,39 @@
-use Rattle.std.proofs.Common.{refl, ◌∙◌}
-use Rattle.stack.proofs.Words.{unmoved}
-use Rattle.stack.proofs.Lent.{same_trans, same-capacity}
-use Rattle.parser.proofs.Ups.{name_taken, all_done, function_done, function_refull, node-short, argument_unclosed, body_unclosed, argument_done, body-done}
+use Rattle.lent.proofs.Refused.{refused}
+use Rattle.parser.specs.Machine.{moved, no_more}
+use Rattle.parser.proofs.Ups.{name_taken, all_done, function_done, function_refull, argument_unclosed, body_unclosed, argument_done, body-done}
 use Rattle.parser.proofs.term.up.Goals as goal
 
-pub returns-in_default : goal.returns-in_default
-returns-in_default g c =
-    let p = c.in_default.ensures in
-    record {
-      within = p.within;
-      same = p.same;
-      top_name = p.top_name;
-      words_name = p.words_name;
-      within_names = c.requires.names;
-      same_names = unmoved c.args.names.now;
-      top_name_names = refl;
-      words_name_names = refl;
-      moves = λ qs x at. all_done at p.cases.1;
-    }
+pub returns-in_default-clause-moves : goal.returns-in_default-clause-moves
+returns-in_default-clause-moves g c = λ qs x at. moved (all_done at c.in_default.ensures.1)
 
-pub returns-then-push_all : goal.returns-then-push_all
-returns-then-push_all g c =
-    let p = c.in-Some.ensures in
-    let q = c.if-push_all.ensures in
-    record {
-      within = q.within;
-      same = same_trans p.same q.same;
-      top_name = q.top_name ∙ p.top_name;
-      words_name = q.words_name ∙ p.words_name;
-      within_names = c.requires.names;
-      same_names = unmoved c.args.names.now;
-      top_name_names = refl;
-      words_name_names = refl;
-      moves = λ qs x at. function_done p.cases at c.in-Function.ensures q.cases;
-    }
+pub returns-in_err-push_all-in-Function-clause-moves : goal.returns-in_err-push_all-in-Function-clause-moves
+returns-in_err-push_all-in-Function-clause-moves g c = λ qs x at.
+    let p = rw (c.in-Some.wait-is, c.in-Some.kept-is) at c.in-Some.ensures in
+    refused _ c.from_residual.result c.from_residual.ensures.0
+    (function_refull p.0 (g.S.Store.state c.args.store.now) at (rw p.1 at c.in_err-push_all-in-Function.ensures.1))
 
-pub returns-else-push_all : goal.returns-else-push_all
-returns-else-push_all g c =
-    let p = c.in-Some.ensures in
-    let q = c.if-push_all.ensures in
-    record {
-      within = q.within;
-      same = same_trans p.same q.same;
-      top_name = q.top_name ∙ p.top_name;
-      words_name = q.words_name ∙ p.words_name;
-      within_names = c.requires.names;
-      same_names = unmoved c.args.names.now;
-      top_name_names = refl;
-      words_name_names = refl;
-      moves = λ qs x at.
-          function_refull p.cases (g.S.Store.state c.args.store.now) at (rw (same-capacity p.same) at q.cases.1);
-    }
+pub returns-in_ok-push_all-in-Function-clause-moves : goal.returns-in_ok-push_all-in-Function-clause-moves
+returns-in_ok-push_all-in-Function-clause-moves g c = λ qs x at.
+    let p = rw (c.in-Some.wait-is, c.in-Some.kept-is) at c.in-Some.ensures in
+    moved (function_done p.0 at (rw c.in-Function.is at c.from.ensures) c.in_ok-push_all-in-Function.ensures.0)
 
-pub returns-then-not-closes_next : goal.returns-then-not-closes_next
-returns-then-not-closes_next g c =
-    let p = c.in-Some.ensures in
-    record {
-      within = p.within;
-      same = p.same;
-      top_name = p.top_name;
-      words_name = p.words_name;
-      within_names = c.requires.names;
-      same_names = unmoved c.args.names.now;
-      top_name_names = refl;
-      words_name_names = refl;
-      moves = λ qs x at. argument_unclosed p.cases at c.in-Argument.ensures c.if-not-closes_next.ensures;
-    }
+pub returns-then-not-closes_next-clause-moves : goal.returns-then-not-closes_next-clause-moves
+returns-then-not-closes_next-clause-moves g c = λ qs x at.
+    let p = rw (c.in-Some.wait-is, c.in-Some.kept-is) at c.in-Some.ensures in
+    no_more (argument_unclosed p.0 at (rw c.in-Argument.is at c.from.ensures) c.if-not-closes_next.ensures)
 
-pub returns-then-not-closes_next-2 : goal.returns-then-not-closes_next-2
-returns-then-not-closes_next-2 g c =
-    let p = c.in-Some.ensures in
-    record {
-      within = p.within;
-      same = p.same;
-      top_name = p.top_name;
-      words_name = p.words_name;
-      within_names = c.requires.names;
-      same_names = unmoved c.args.names.now;
-      top_name_names = refl;
-      words_name_names = refl;
-      moves = λ qs x at. body_unclosed p.cases at c.in-Body.ensures c.if-not-closes_next-2.ensures;
-    }
+pub returns-then-not-closes_next-2-clause-moves : goal.returns-then-not-closes_next-2-clause-moves
+returns-then-not-closes_next-2-clause-moves g c = λ qs x at.
+    let p = rw (c.in-Some.wait-is, c.in-Some.kept-is) at c.in-Some.ensures in
+    no_more (body_unclosed p.0 at (rw c.in-Body.is at c.from.ensures) c.if-not-closes_next-2.ensures)
 
-pub returns-in-Some-apply : goal.returns-in-Some-apply
-returns-in-Some-apply g c =
-    let p = c.in-Some.ensures in
-    record {
-      within = p.within;
-      same = p.same;
-      top_name = p.top_name;
-      words_name = p.words_name;
-      within_names = c.requires.names;
-      same_names = unmoved c.args.names.now;
-      top_name_names = refl;
-      words_name_names = refl;
-      moves = λ qs x at.
-          argument_done p.cases c.if-not-closes_next.ensures at c.in-Argument.ensures c.in-Some-apply.ensures;
-    }
+pub returns-in_ok-ok_or-in-Argument-clause-moves : goal.returns-in_ok-ok_or-in-Argument-clause-moves
+returns-in_ok-ok_or-in-Argument-clause-moves g c = λ qs x at.
+    let p = rw (c.in-Some.wait-is, c.in-Some.kept-is) at c.in-Some.ensures in
+    moved (argument_done p.0 c.if-not-closes_next.ensures at (rw c.in-Argument.is at c.from.ensures) (rw c.in_ok-ok_or-in-Argument.ensures.ok_part at c.apply.ensures))
 
-pub returns-in-None : goal.returns-in-None
-returns-in-None g c =
-    let p = c.in-Some.ensures in
-    record {
-      within = p.within;
-      same = p.same;
-      top_name = p.top_name;
-      words_name = p.words_name;
-      within_names = c.requires.names;
-      same_names = unmoved c.args.names.now;
-      top_name_names = refl;
-      words_name_names = refl;
-      moves = λ qs x at. node-short p.cases at c.in-None.ensures;
-    }
-
-pub returns-in-Some-lambda : goal.returns-in-Some-lambda
-returns-in-Some-lambda g c =
-    let p = c.in-Some.ensures in
-    let n = c.pop.ensures in
-    record {
-      within = p.within;
-      same = p.same;
-      top_name = p.top_name;
-      words_name = p.words_name;
-      within_names = n.within;
-      same_names = n.same;
-      top_name_names = n.top_name;
-      words_name_names = n.words_name;
-      moves = λ qs x at.
-          body-done p.cases c.if-not-closes_next-2.ensures at c.in-Body.ensures
-          (λ k zs e. name_taken c.args.names.now c.pop.new.self c.pop.result n.cases e) c.in-Some-lambda.ensures;
-    }
-
-pub returns-in-None-lambda : goal.returns-in-None-lambda
-returns-in-None-lambda g c =
-    let p = c.in-Some.ensures in
-    let n = c.pop.ensures in
-    record {
-      within = p.within;
-      same = p.same;
-      top_name = p.top_name;
-      words_name = p.words_name;
-      within_names = n.within;
-      same_names = n.same;
-      top_name_names = n.top_name;
-      words_name_names = n.words_name;
-      moves = λ qs x at. node-short p.cases at c.in-None-lambda.ensures;
-    }
+pub returns-in_ok-ok_or-in-Body-clause-moves : goal.returns-in_ok-ok_or-in-Body-clause-moves
+returns-in_ok-ok_or-in-Body-clause-moves g c = λ qs x at.
+    let p = rw (c.in-Some.wait-is, c.in-Some.kept-is) at c.in-Some.ensures in
+    moved (body-done p.0 c.if-not-closes_next-2.ensures at (rw c.in-Body.is at c.from.ensures)
+    (λ k zs e. name_taken c.args.names.now c.pop.new.self c.pop.result c.pop.ensures e) (rw c.in_ok-ok_or-in-Body.ensures.ok_part at c.lambda.ensures))

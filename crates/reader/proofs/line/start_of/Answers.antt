@@ -1,19 +1,23 @@
 -- Each token does to the count what it does to the trees ahead.
-use Rattle.std.proofs.Common.{ap, arith}
-use Rattle.reader.proofs.Nesting.{counting_start, counting_out, counting_in, none_left, none_behind, starts_here}
+use Rattle.std.proofs.Common.{ap}
+use Rattle.reader.proofs.Nesting.{counting_start, counting_out, counting_in, none_left, starts_here}
 use Rattle.reader.proofs.line.start_of.Goals as goal
 use Rattle.reader.proofs.line.start_of.Goals.{then-depth-eq0+else-begun-n, else-depth-eq0}
 
-pub loop-tokens-init : goal.loop-tokens-init
-loop-tokens-init c =
-    counting_start c.args.text.now c.args.n c.new-tokens.result
-    (ap (λ r. r.now) c.new-tokens.ensures.0) c.new-tokens.ensures.1
+pub loop-depth-init : goal.loop-depth-init
+loop-depth-init c = counting_start c.args.text.now c.args.n c.new-tokens.result (ap (λ r. r.now) c.new-tokens.ensures)
 
-pub loop-tokens-preserved : goal.loop-tokens-preserved
-loop-tokens-preserved c =
+pub returns-then-begun-n-clause-says : goal.returns-then-begun-n-clause-says
+returns-then-begun-n-clause-says c =
+    let l = c.loop-depth in
+    starts_here c.args.text.now c.args.n l.tokens l.depth l.begun l.invariant c.skip-ahead.result.now
+    c.if-depth-eq0.true c.if-begun-n.true c.skip-ahead.ensures
+
+pub loop-depth-preserved : goal.loop-depth-preserved
+loop-depth-preserved c =
     let text = c.args.text.now in
-    let l = c.loop-tokens in
-    let on = c.in-Some.ensures in
+    let l = c.loop-depth in
+    let on = c.in-Some.ensures.steps in
     elim c.if-depth-eq0.branch [
       | then-depth-eq0+else-begun-n w ↦
           simp (c.depth_behind-depth.ensures, w.begun-is)
@@ -25,27 +29,7 @@ loop-tokens-preserved c =
           w.if-depth-eq0.false)
     ]
 
-pub returns-then-begun-n : goal.returns-then-begun-n
-returns-then-begun-n c =
-    let l = c.loop-tokens in
-    record {
-      says = starts_here c.args.text.now c.args.n l.tokens l.depth l.begun l.invariant c.skip-start.result
-          c.if-depth-eq0.true c.if-begun-n.true c.skip-start.ensures;
-      within = c.skip-start.ensures.within (omega arith);
-    }
-
-pub returns-in-None : goal.returns-in-None
-returns-in-None c =
-    let l = c.loop-tokens in
-    record {
-      says = none_left c.args.text.now c.args.n l.tokens l.depth l.begun l.invariant _ c.in-None.ensures.0;
-      within = omega arith;
-    }
-
-pub returns : goal.returns
-returns c =
-    let l = c.loop-tokens in
-    record {
-      says = none_behind c.args.text.now c.args.n l.tokens l.depth l.begun l.invariant _ c.loop-tokens-test.false;
-      within = omega arith;
-    }
+pub returns-in-None-clause-says : goal.returns-in-None-clause-says
+returns-in-None-clause-says c =
+    let l = c.loop-depth in
+    none_left c.args.text.now c.args.n l.tokens l.depth l.begun l.invariant _ c.in-None.ensures.steps.0

@@ -1,10 +1,11 @@
 -- The bytes passed are blanks and comments.
-use Rattle.std.proofs.Common.{◌-◌, length}
-use Rattle.reader.proofs.Places.{Skipped}
+use Rattle.std.proofs.Common.{◌≡◌, length}
+use Rattle.hol.specs.Text.{gap, tokens}
+use Rattle.reader.specs.Next.{EndsWith}
 use Rattle.reader.proofs.tokens.skip.Given as goal
 
-abbrev pub invariant-loop-start : goal.invariant-loop-start
-invariant-loop-start l = Skipped l.text l.at l.start
+abbrev pub invariant-loop-text : goal.invariant-loop-text
+invariant-loop-text l = (tokens gap l.initial.text ≡ tokens gap l.text) × EndsWith l.initial.text l.text
 
-abbrev pub decreases-loop-start : goal.decreases-loop-start
-decreases-loop-start l = length l.text - l.start
+abbrev pub decreases-loop-text : goal.decreases-loop-text
+decreases-loop-text l = length l.text

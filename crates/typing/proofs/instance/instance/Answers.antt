@@ -1,105 +1,89 @@
-use Rattle.std.proofs.Common.{◌≡◌, ◌-◌, ◌*◌, [], sym, ◌∙◌, inl, inr, arith}
-use Rattle.walk.specs.Standing.{done}
+use Rattle.std.proofs.Common.{[], sym, ap, ◌∙◌, inl, inr, arith}
 use Rattle.hol.specs.Syntax.{tyvars_ty, zip}
-use Rattle.typing.proofs.Restored.{restores_on, same-room, still_within, answers_refused}
-use Rattle.typing.proofs.Instancing.{short_names, not_as_many, few_words, made, not_made, as_many}
+use Rattle.walk.specs.Standing.{done}
+use Rattle.lent.proofs.Refused.{refused}
+use Rattle.typing.proofs.Instancing.{stacked, entries_stacked, short_names, not_as_many, few_words, made, not_made, as_many}
 use Rattle.typing.proofs.instance.instance.Goals as goal
 
-pub tyvars_type-requires : goal.tyvars_type-requires
-tyvars_type-requires g c = record { stack = c.requires.stack; count = omega arith; names = ([], done); stands = c.requires.typ }
+pub tyvars_type-requires-clause-names : goal.tyvars_type-requires-clause-names
+tyvars_type-requires-clause-names g c = ([], rw c.new-gathered.ensures done)
 
 pub returns-in_err-tyvars_type : goal.returns-in_err-tyvars_type
-returns-in_err-tyvars_type g c =
-    let t = c.in_err-tyvars_type.ensures in
-    record {
-      stack = t.stack;
-      scratch = t.adds.len;
-      cases = λ b bs hb h. answers_refused _ c.from_residual.result c.from_residual.ensures.0 (short_names b bs _ _ _ (t.cases b [] hb done).1);
-    }
-
-pub has_count-requires : goal.has_count-requires
-has_count-requires g c = let (bs, h) = c.requires.types in (bs, c.tyvars_type.ensures.stays.grows.keeps.types _ bs h)
+returns-in_err-tyvars_type g c b bs hb h =
+    let t = (c.in_err-tyvars_type.ensures.cases b [] hb (rw c.new-gathered.ensures done)).1 in
+    refused _ c.from_residual.result c.from_residual.ensures.0 (short_names b bs _ _ _ (rw c.new-gathered.ensures at t))
 
 pub returns-then-not-has_count : goal.returns-then-not-has_count
-returns-then-not-has_count g c =
+returns-then-not-has_count g c b bs hb h =
     let t = c.in_ok-tyvars_type.ensures in
-    record {
-      stack = t.stack;
-      scratch = t.adds.len;
-      cases = λ b bs hb h.
-          not_as_many t.stays b bs c.tyvars_type.new.count c.tyvars_type.new.names t.adds.high (t.cases b [] hb done)
-          (sym c.if-not-has_count.true ∙ c.has_count.ensures bs (t.stays.grows.keeps.types _ bs h));
-    }
+    let f = c.gathered in
+    let n = stacked (g.S.Store.state c.tyvars_type.new.store).contents f.inside.words.now f.inside.len c.tyvars_type.new.names f.view_is
+    (t.cases b [] hb (rw c.new-gathered.ensures done)) in
+    not_as_many t.stays b bs f.inside.len f.inside.words.now f.invariant n
+    (sym c.if-not-has_count.true ∙ c.has_count.ensures bs (t.stays.grows.keeps.types _ bs h))
 
-pub returns-then-count-scratch : goal.returns-then-count-scratch
-returns-then-count-scratch g c =
+pub pair-requires-clause-names : goal.pair-requires-clause-names
+pair-requires-clause-names g c =
     let t = c.in_ok-tyvars_type.ensures in
-    record {
-      stack = t.stack;
-      scratch = t.adds.len;
-      cases = λ b bs hb h.
-          let l = few_words t.stays b bs c.tyvars_type.new.count c.tyvars_type.new.names t.adds.high (t.cases b [] hb done) c.if-count-scratch.true in
-          inl (inr (omega (arith, l, t.adds.len)));
-    }
+    let (b, hb) = c.requires.typ in
+    let f = c.gathered in
+    let n = stacked (g.S.Store.state c.tyvars_type.new.store).contents f.inside.words.now f.inside.len c.tyvars_type.new.names f.view_is
+    (t.cases b [] hb (rw c.new-gathered.ensures done)) in
+    (tyvars_ty b [], rw c.split_at_mut-names.ensures.front n)
 
-pub pair-requires : goal.pair-requires
-pair-requires g c =
+pub returns-in_err-pair : goal.returns-in_err-pair
+returns-in_err-pair g c b bs hb h =
+    let t = c.in_ok-tyvars_type.ensures in
+    let f = c.gathered in
+    let s = c.split_at_mut-names.ensures in
+    let n = stacked (g.S.Store.state c.tyvars_type.new.store).contents f.inside.words.now f.inside.len c.tyvars_type.new.names f.view_is
+    (t.cases b [] hb (rw c.new-gathered.ensures done)) in
+    let hs = t.stays.grows.keeps.types _ bs h in
+    let q = as_many t.stays b bs f.inside.len f.inside.words.now f.invariant n (sym c.if-not-has_count.false ∙ c.has_count.ensures bs hs) in
+    let l = c.in_err-pair.ensures (tyvars_ty b []) bs (rw s.front n) hs (q ∙ sym s.front_len) in
+    let z = ap (λ p. p.capacity) f.view_is ∙ (t.adds.capacity ∙ ap (λ p. p.capacity) c.new-gathered.ensures) in
+    let e = ap (λ p. p.capacity) c.new-entries.ensures in
+    let m = few_words t.stays b bs f.inside.len f.inside.words.now f.invariant n s.back_len (omega (arith, l, e, s.front_len)) in
+    refused _ c.from_residual-in_err-pair.result c.from_residual-in_err-pair.ensures.0 (inl (inr (omega (arith, m, z))))
+
+pub subst_type-requires-clause-entries : goal.subst_type-requires-clause-entries
+subst_type-requires-clause-entries g c =
     let t = c.in_ok-tyvars_type.ensures in
     let (b, hb) = c.requires.typ in
     let (bs, h) = c.requires.types in
-    let f = t.stays.grows.keeps.types _ bs h in
-    let n = t.cases b [] hb done in
-    record {
-      room = omega (arith, c.if-count-scratch.false);
-      names = (tyvars_ty b [], n);
-      types = (bs, f, as_many t.stays b bs c.tyvars_type.new.count c.tyvars_type.new.names t.adds.high n (sym c.if-not-has_count.false ∙ c.has_count.ensures bs f));
-    }
+    let f = c.gathered in
+    let s = c.split_at_mut-names.ensures in
+    let d = (g.S.Store.state c.tyvars_type.new.store).contents in
+    let n = stacked d f.inside.words.now f.inside.len c.tyvars_type.new.names f.view_is (t.cases b [] hb (rw c.new-gathered.ensures done)) in
+    let hs = t.stays.grows.keeps.types _ bs h in
+    let q = as_many t.stays b bs f.inside.len f.inside.words.now f.invariant n (sym c.if-not-has_count.false ∙ c.has_count.ensures bs hs) in
+    (zip (tyvars_ty b []) bs, entries_stacked d c.as_slice.ensures (c.in_ok-pair.ensures (tyvars_ty b []) bs (rw s.front n) hs (q ∙ sym s.front_len)))
 
-pub subst_type-requires : goal.subst_type-requires
-subst_type-requires g c =
+pub returns-in_err-subst_type : goal.returns-in_err-subst_type
+returns-in_err-subst_type g c b bs hb h =
     let t = c.in_ok-tyvars_type.ensures in
-    let (b, hb) = c.requires.typ in
-    let (bs, h) = c.requires.types in
-    let f = t.stays.grows.keeps.types _ bs h in
-    let n = t.cases b [] hb done in
-    let q = as_many t.stays b bs c.tyvars_type.new.count c.tyvars_type.new.names t.adds.high n (sym c.if-not-has_count.false ∙ c.has_count.ensures bs f) in
-    let e : 3 * c.tyvars_type.new.count - c.tyvars_type.new.count ≡ 2 * c.tyvars_type.new.count = omega arith in
-    record {
-      stack = still_within t.stack c.requires.stack;
-      entries = (zip (tyvars_ty b []) bs, rw e (c.pair.ensures.entries (tyvars_ty b []) bs n f q));
-      stands = (b, t.stays.grows.keeps.typ _ b hb);
-    }
+    let f = c.gathered in
+    let s = c.split_at_mut-names.ensures in
+    let d = (g.S.Store.state c.tyvars_type.new.store).contents in
+    let n = stacked d f.inside.words.now f.inside.len c.tyvars_type.new.names f.view_is (t.cases b [] hb (rw c.new-gathered.ensures done)) in
+    let hs = t.stays.grows.keeps.types _ bs h in
+    let r = sym c.if-not-has_count.false ∙ c.has_count.ensures bs hs in
+    let q = as_many t.stays b bs f.inside.len f.inside.words.now f.invariant n r in
+    let es = entries_stacked d c.as_slice.ensures (c.in_ok-pair.ensures (tyvars_ty b []) bs (rw s.front n) hs (q ∙ sym s.front_len)) in
+    refused _ c.from_residual-in_err-subst_type.result c.from_residual-in_err-subst_type.ensures.0
+    (not_made t.stays b bs f.inside.len f.inside.words.now f.invariant n _ _ r
+    (rw c.tyvars_type.auto.words at (c.in_err-subst_type.ensures (zip (tyvars_ty b []) bs) b es (t.stays.grows.keeps.typ _ b hb))))
 
-pub returns-in-Ok : goal.returns-in-Ok
-returns-in-Ok g c =
+pub returns : goal.returns
+returns g c b bs hb h =
     let t = c.in_ok-tyvars_type.ensures in
-    let s = c.in-Ok.ensures in
-    let e : 3 * c.tyvars_type.new.count - c.tyvars_type.new.count ≡ 2 * c.tyvars_type.new.count = omega arith in
-    record {
-      stack = restores_on t.stack s.stack;
-      scratch = c.pair.ensures.len ∙ t.adds.len;
-      cases = λ b bs hb h.
-          let f = t.stays.grows.keeps.types _ bs h in
-          let n = t.cases b [] hb done in
-          let r = sym c.if-not-has_count.false ∙ c.has_count.ensures bs f in
-          let q = as_many t.stays b bs c.tyvars_type.new.count c.tyvars_type.new.names t.adds.high n r in
-          made t.stays b bs c.tyvars_type.new.count c.tyvars_type.new.names t.adds.high n r
-          (s.made (zip (tyvars_ty b []) bs) b (rw e (c.pair.ensures.entries (tyvars_ty b []) bs n f q)) (t.stays.grows.keeps.typ _ b hb));
-    }
-
-pub returns-in-Err : goal.returns-in-Err
-returns-in-Err g c =
-    let t = c.in_ok-tyvars_type.ensures in
-    let s = c.in-Err.ensures in
-    let e : 3 * c.tyvars_type.new.count - c.tyvars_type.new.count ≡ 2 * c.tyvars_type.new.count = omega arith in
-    record {
-      stack = restores_on t.stack s.stack;
-      scratch = c.pair.ensures.len ∙ t.adds.len;
-      cases = λ b bs hb h.
-          let f = t.stays.grows.keeps.types _ bs h in
-          let n = t.cases b [] hb done in
-          let r = sym c.if-not-has_count.false ∙ c.has_count.ensures bs f in
-          let q = as_many t.stays b bs c.tyvars_type.new.count c.tyvars_type.new.names t.adds.high n r in
-          not_made t.stays b bs c.tyvars_type.new.count c.tyvars_type.new.names t.adds.high n _ _ r
-          (rw (same-room t.stack) at (s.made (zip (tyvars_ty b []) bs) b (rw e (c.pair.ensures.entries (tyvars_ty b []) bs n f q)) (t.stays.grows.keeps.typ _ b hb)));
-    }
+    let f = c.gathered in
+    let s = c.split_at_mut-names.ensures in
+    let d = (g.S.Store.state c.tyvars_type.new.store).contents in
+    let n = stacked d f.inside.words.now f.inside.len c.tyvars_type.new.names f.view_is (t.cases b [] hb (rw c.new-gathered.ensures done)) in
+    let hs = t.stays.grows.keeps.types _ bs h in
+    let r = sym c.if-not-has_count.false ∙ c.has_count.ensures bs hs in
+    let q = as_many t.stays b bs f.inside.len f.inside.words.now f.invariant n r in
+    let es = entries_stacked d c.as_slice.ensures (c.in_ok-pair.ensures (tyvars_ty b []) bs (rw s.front n) hs (q ∙ sym s.front_len)) in
+    made t.stays b bs f.inside.len f.inside.words.now f.invariant n r
+    (c.in_ok-subst_type.ensures (zip (tyvars_ty b []) bs) b es (t.stays.grows.keeps.typ _ b hb))

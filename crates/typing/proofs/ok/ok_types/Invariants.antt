@@ -1,20 +1,19 @@
-use Rattle.std.proofs.Common.{◌≡◌, true}
+use Rattle.std.proofs.Common.{◌≡◌, true, length}
 use mathlib.Core.Option.{some}
 use Rattle.hol.specs.Syntax.{Tys}
 use Rattle.hol.specs.Theory.{Theory, ok_tys}
 use Rattle.store.specs.State.{Stays}
-use Rattle.stack.specs.Frames.{held}
-use Rattle.stack.proofs.Lent.{Lent}
 use Rattle.walk.proofs.Pending.{Pending, load}
-use Rattle.typing.proofs.OkLists.{passing, size_tys}
+use Rattle.walk.proofs.TypeLists.{size_tys}
+use Rattle.typing.proofs.OkLists.{passing}
 use Rattle.typing.proofs.ok.ok_types.Given as goal
 
 -- all types so far were ok
 abbrev pub invariant-loop-next : goal.invariant-loop-next
 invariant-loop-next g l =
-    Lent l.initial.pending l.pending × Stays (g.S.Store.state l.initial.store) (g.S.Store.state l.store)
+    (l.pending.capacity ≡ length l.fn.words) × Stays (g.S.Store.state l.initial.store) (g.S.Store.state l.store)
     × ((th : Theory) (bs : Tys) → (g.T.Signature.meaning l.theory).knows (g.S.Store.state l.initial.store).contents th → (g.S.Store.state l.initial.store).contents.types l.list ≡ some bs
-    → Pending (g.S.Store.state l.store).contents.types (passing th) size_tys (ok_tys th bs) (size_tys bs) (held l.pending) true 0)
+    → Pending (g.S.Store.state l.store).contents.types (passing th) size_tys (ok_tys th bs) (size_tys bs) l.pending.held true 0)
 
 abbrev pub decreases-loop-next : goal.decreases-loop-next
-decreases-loop-next g l = load (g.S.Store.state l.store).contents.types size_tys (held l.pending)
+decreases-loop-next g l = load (g.S.Store.state l.store).contents.types size_tys l.pending.held

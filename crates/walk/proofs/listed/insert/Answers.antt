@@ -1,27 +1,17 @@
-use Rattle.std.proofs.Common.{◌≡◌, ◌-◌, sym, ◌∙◌, arith}
-use Rattle.walk.proofs.NameLists.{adds_none, adds_one, put-known, put_new}
+use Rattle.std.proofs.Common.{sym, ◌∙◌}
+use Rattle.walk.proofs.NameLists.{put-known, put_all, adds_pushed, listed}
 use Rattle.walk.proofs.listed.insert.Goals as goal
 
-pub returns-then-among : goal.returns-then-among
-returns-then-among g c =
+pub returns-then-among-clause-cases : goal.returns-then-among-clause-cases
+returns-then-among-clause-cases g c w ws hw h =
     let a = c.among.ensures in
-    let n = c.args.count.now in
-    let z : n - 0 ≡ n = omega arith in
-    record {
-      stays = a.stays;
-      adds = adds_none _ _ c.requires;
-      cases = λ w ws hw h. put-known a.stays.grows.keeps w c.args.names.now n h
-          (sym (a.found w ws hw (rw z h)) ∙ c.if-among.true);
-    }
+    put-known a.stays.grows.keeps w c.args.names.now.held h (sym (a.found w ws hw (listed (g.S.Store.state c.args.store.now).contents c.as_slice.ensures h)) ∙ c.if-among.true)
 
-pub returns : goal.returns
-returns g c =
+pub returns-clause-adds : goal.returns-clause-adds
+returns-clause-adds g c = adds_pushed c.args.name c.args.names.now c.push.new.self c.push.result c.push.ensures
+
+pub returns-clause-cases : goal.returns-clause-cases
+returns-clause-cases g c w ws hw h =
     let a = c.among.ensures in
-    let n = c.args.count.now in
-    let z : n - 0 ≡ n = omega arith in
-    record {
-      stays = a.stays;
-      adds = adds_one _ _ _ c.if-count-names.false;
-      cases = λ w ws hw h. put_new a.stays.grows.keeps w c.args.names.now n h c.if-count-names.false
-          c.args.name hw (sym (a.found w ws hw (rw z h)) ∙ c.if-among.false);
-    }
+    put_all a.stays.grows.keeps w c.args.names.now c.push.new.self h c.args.name hw (sym (a.found w ws hw (listed (g.S.Store.state c.args.store.now).contents c.as_slice.ensures h)) ∙ c.if-among.false)
+    c.push.result c.push.ensures

@@ -1,28 +1,22 @@
-use Rattle.std.proofs.Common.{◌≡◌, false, inr, arith, rules}
+use Rattle.std.proofs.Common.{inr, arith}
+use Rattle.std.proofs.lemmas.Result.{err_from_is_err_and}
+use Rattle.lent.proofs.Asked.{asked}
 use Rattle.store.proofs.Growth.{grows_on, grows-more}
-use Rattle.workspace.specs.Space.{undone}
-use Rattle.workspace.proofs.Serving.{keeping, lacks_four, lacks_more}
+use Rattle.workspace.proofs.Serving.{lacks_four, lacks_more}
 use Rattle.workspace.proofs.terms.lambda_over.Goals as goal
 
 pub returns-in_err-body : goal.returns-in_err-body
-returns-in_err-body g c =
-    let k = c.in_err-body.ensures.cases in
-    record {
-      space = search rules;
-      cases = λ w b u h₁ h₂ h₃.
-          let short = rw k.0.1 at (c.close-closed.ensures.made w b u h₁ h₂ h₃) in
-          rw c.from_residual.ensures (undone (lacks_more (omega arith) (omega arith) (lacks_four _ short)) k.1);
-    }
+returns-in_err-body g c w b u h₁ h₂ h₃ =
+    let e = err_from_is_err_and c.from_residual.result c.from_residual.ensures.1 in
+    rw e.1 (lacks_more (omega arith) (omega arith) (lacks_four _ (c.in_err-body.ensures w b u h₁ h₂ h₃)))
 
 pub returns : goal.returns
-returns g c =
-    let k = c.in_ok-body.ensures.cases in
-    let e : c.room.new.self.full ≡ false = cc in
-    record {
-      space = search rules;
-      cases = λ w b u h₁ h₂ h₃.
-          let m = rw k.0 at (c.close-closed.ensures.made w b u h₁ h₂ h₃) in
-          let gc = m.grows.cost in
-          keeping _ c.lambda.result c.kept.result _ _ c.kept.ensures.cases e c.lambda.ensures (λ f. inr (omega (arith, gc, f.short)))
-          (λ n l. record { grows = grows-more (omega arith) (grows_on m.grows l.grows); stands = l.stands _ _ ((grows_on m.grows l.grows).keeps.typ _ _ h₂) (l.grows.keeps.term _ _ m.stands) });
-    }
+returns g c w b u h₁ h₂ h₃ =
+    let m = c.in_ok-body.ensures w b u h₁ h₂ h₃ in
+    rw c.ok_or.ensures.value
+    (asked c.lambda.result
+    (λ n. let f = rw n at c.lambda.ensures in inr (omega (arith, m.grows.cost, f.short)))
+    (λ k o.
+    let l = rw o at c.lambda.ensures in
+    let gr = grows_on m.grows l.grows in
+    record { grows = grows-more (omega arith) gr; stands = l.stands _ _ (gr.keeps.typ _ _ h₂) (l.grows.keeps.term _ _ m.stands) }))

@@ -1,6 +1,5 @@
 use Rattle.std.proofs.Common.{◌≡◌, arith, refl, length, ap, ◌+◌, ◌-◌}
 use Rattle.lent.proofs.Words.{pushed, pile-length}
-use Rattle.lent.specs.Piles.{pile}
 use Rattle.lent.proofs.stack.Stack.push_all.Goals as goal
 
 pub returns-then-words-self : goal.returns-then-words-self

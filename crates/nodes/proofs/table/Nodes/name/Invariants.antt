@@ -1,10 +1,8 @@
-use Rattle.std.proofs.Common.{◌≡◌, ◌-◌, length, drop}
-use mathlib.Core.Option.{some}
-use Rattle.store.specs.State.{Grows}
+use Rattle.std.specs.Iterator.Adapters.{rev_source}
+use Rattle.std.specs.Slice.Iter.{iter_rest}
 use Rattle.nodes.specs.Meaning.{state_of}
+use Rattle.nodes.proofs.Naming.{Named}
 use Rattle.nodes.proofs.table.Nodes.name.Given as goal
 
-abbrev pub invariant-loop-i : goal.invariant-loop-i
-invariant-loop-i l =
-    Grows (length l.w - l.i) (state_of l.initial.self) (state_of l.self)
-    × ((state_of l.self).contents.word l.n ≡ some (drop l.i l.w))
+abbrev pub invariant-loop-byte : goal.invariant-loop-byte
+invariant-loop-byte l = Named (state_of l.initial.self) (state_of l.self) l.w (iter_rest (rev_source l.byte-iterator)) l.n

@@ -11,11 +11,11 @@ returns-then-n-eq-EMPTY c w h =
     let s = c.args.self.now.nodes.now in
     some_inj (sym h ∙ ap (state_of s).contents.terms c.if-n-eq-EMPTY.true ∙ zero_terms s.words.now s.used)
 
-pub returns-in-Some : goal.returns-in-Some
-returns-in-Some c =
-    terms_says (items (rows_of c.args.self.now.nodes.now)) c.args.n c.in-Some.node c.in-Some.ensures.shows
+pub returns : goal.returns
+returns c =
+    terms_says (items (rows_of c.args.self.now.nodes.now)) c.args.n c.in_ok-get.field-0 c.in_ok-get.ensures.shows
     c.as_terms.result c.as_terms.ensures
 
-pub returns-in-None : goal.returns-in-None
-returns-in-None c w h =
-    absurd (no_terms (items (rows_of c.args.self.now.nodes.now)) c.args.n c.in-None.ensures.shows c.if-n-eq-EMPTY.false w h)
+pub returns-in_err-get : goal.returns-in_err-get
+returns-in_err-get c w h =
+    absurd (no_terms (items (rows_of c.args.self.now.nodes.now)) c.args.n c.in_err-get.ensures.shows c.if-n-eq-EMPTY.false w h)

@@ -1,23 +1,8 @@
-use Rattle.std.proofs.Common.{◌∙◌}
-use Rattle.theory.proofs.Found.{found_is, const-declared, const-found, const_none}
+use Rattle.std.proofs.Common.{rules}
+use Rattle.theory.proofs.Found.{const-declared, const-found}
 use Rattle.theory.proofs.table.lookup.DeclsSignature.const_type.Goals as goal
 
-pub returns-in-Some : goal.returns-in-Some
-returns-in-Some g c =
-    let f = c.in-Some.ensures in
-    record {
-      stays = f.stays;
-      found = λ th w k e.
-          found_is (const-declared th w (c.if-is_named.ensures w e) (c.if-is_named-2.ensures w e))
-          (const-found _ _ th w (f.found th w k e));
-    }
-
-pub returns-in-None : goal.returns-in-None
-returns-in-None g c =
-    let f = c.in-None.ensures in
-    record {
-      stays = f.stays;
-      found = λ th w k e.
-          const-declared th w (c.if-is_named.ensures w e) (c.if-is_named-2.ensures w e)
-          ∙ const_none th w (f.found th w k e);
-    }
+pub returns-clause-found : goal.returns-clause-found
+returns-clause-found g c th w k e =
+    rw (const-declared th w (c.if-is_named.ensures w e) (c.if-is_named-2.ensures w e))
+    (const-found (g.S.Store.state c.args.store.now).contents th w c.find.result (λ p. c.find.ensures.found _ th w p k e) (λ r o p. search rules))

@@ -1,0 +1,24 @@
+use Rattle.std.proofs.Common.{◌≡◌, ◌+◌, List, length, reverse}
+use mathlib.Core.Option.{some}
+use Rattle.hol.specs.Base.{Word}
+use Rattle.hol.specs.Syntax.{Tys, tyvars_tys}
+use Rattle.store.specs.State.{Stays}
+use Rattle.walk.specs.Standing.{Names}
+use Rattle.walk.specs.TypeVars.{Adds}
+use Rattle.walk.proofs.Pending.{load}
+use Rattle.walk.proofs.Gathering.{Gathering}
+use Rattle.walk.proofs.TypeLists.{size_tys}
+use Rattle.walk.proofs.tyvars.gather_types.Given as goal
+
+-- the names gathered so far and the lists of types still to come give what is wanted
+abbrev pub invariant-loop-next : goal.invariant-loop-next
+invariant-loop-next g l =
+    (l.pending.capacity ≡ length l.fn.words) × Stays (g.S.Store.state l.initial.store) (g.S.Store.state l.store)
+    × Adds l.initial.names l.names
+    × ((bs : Tys) (ws : List Word) → (g.S.Store.state l.initial.store).contents.types l.list ≡ some bs
+    → Names (g.S.Store.state l.initial.store).contents (reverse l.initial.names.held) ws
+    → Gathering (g.S.Store.state l.store).contents (g.S.Store.state l.store).contents.types tyvars_tys size_tys
+    (tyvars_tys bs ws) (length l.initial.names.held + size_tys bs) l.pending.held l.names.held)
+
+abbrev pub decreases-loop-next : goal.decreases-loop-next
+decreases-loop-next g l = load (g.S.Store.state l.store).contents.types size_tys l.pending.held

@@ -1,0 +1,25 @@
+#!/bin/sh
+# Counts the places of each point of docs/DESIGN-PASS.md in src/ of a commit: tools/places.sh COMMIT
+C=$1
+n() { git grep -nE "$2" "$C" -- 'crates/*/src/*.rt' 'crates/*/src/**/*.rt' | grep -vE 'tests\.rt:' | wc -l | xargs printf '%-4s %-62s %s\n' "$1" "$2"; }
+n 1a '^ *//.*\bfalse\b'
+n 1b ' == [A-Z][A-Za-z]*::[A-Z][A-Za-z]* as u64'
+n 1c '^    (Missing|Differ|Nothing|Fail|Untyped|Unclear),$'
+n 1d '\bfull: bool|\.full = true'
+n 1e '(first|second): 0,'
+n 2a '^ *(pub |pub\(super\) )?fn (wait|mark|code|of|same_variable|first_type|push_behind|view)\b'
+n 2b '^pub enum (Wait|FirstType|Kind)\b'
+n 2c 'fn add_(type|const|def|axiom|thm)\b'
+n 3a '^ *while [a-z.]+ [<>] |for i in '
+n 3b '^ *while let \[|^ *while let ListView'
+n 4a 'None => Err\(NoRoom\)|return Err\(NoRoom\)|^ +Err\(NoRoom\)$'
+n 4b 'Err\((e|NoRoom)\) => (return )?Err\(|None => (return )?None|Ok\(\(\)\) => Ok\(\(\)\)'
+n 4c '^ +(false|None|Ok\(false\))$'
+n 5a 'top: &mut usize|scope_top: &mut usize'
+n 5b 'ensures (top_name|words_name|within|same|top_name_names|words_name_names|within_names|same_names) '
+n 5c 'work: &mut Workspace'
+n 5d 'ground: Ground'
+n 5e 'entries: &\[u64\]'
+n 6a 'count: &mut usize'
+n 6b '^ +used: usize,$'
+n 7a '^fn step\b|enum (LeftOut|Wanted)\b'
