@@ -12,6 +12,7 @@ use store::Store;
 pub fn lookup<S: Store>(store: &S, names: &Stack<'_>, w: &[u8]) -> Option<u64>
     ensures { (xs : List Word) → Names (S.state store.now).contents names.now.held xs → Places (index_of w.now xs 0) result }
 {
+    // Counted, and not by `position`: what `is_named` answers of a number that stands for no name is not said.
     let mut outwards = 0;
     for name in names.as_slice().iter().rev() {
         if is_named(store, *name, w) {

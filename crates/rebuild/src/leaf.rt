@@ -20,7 +20,8 @@ pub trait Leaf<S: Store> {
         requires stands { (u : Tm) × ((S.state store.old).contents.term t ≡ some u) }
         ensures { (F : Change) (u : Tm) → does self.now (S.state store.old).contents F → (S.state store.old).contents.term t ≡ some u → is_leaf u ≡ true → Rebuilds (length words.old) (nodes_tm u) (nodes_tm (F.leaf depth u)) (S.state store.old) (S.state store.new) (λ d n. d.term n ≡ some (F.leaf depth u)) result };
 
-    // What becomes of the type `a` of a λ.
+    // What becomes of the type `a` of a λ. No body here, though three leaves give the type as it is: it would have to meet the clause for
+    // every `does`.
     fn typ(&self, store: &mut S, words: &mut [u64], a: u64) -> Result<u64, NoRoom>
         requires does { (F : Change) × does self.now (S.state store.old).contents F }
         requires stands { (b : Ty) × ((S.state store.old).contents.typ a ≡ some b) }
