@@ -32,8 +32,8 @@ module _ (f : Tm → Tm) {s t : State} {us : List Tm} {hs : List ℕ} {m n : ℕ
       omega arith
 
   -- no room for it above the stack q, on which the others still lie
-  pub no_words : {q : Pile} → ns ≡ q.held → spare q < 4 * nodes_tm (taken in_hyps f k pop).first → q.capacity < 5 * nodes_tms us
-  no_words e h =
+  pub no_words : (q : Pile) → ns ≡ q.held → spare q < 4 * nodes_tm (taken in_hyps f k pop).first → q.capacity < 5 * nodes_tms us
+  no_words q e h =
       let v = taken in_hyps f k pop in
       let a = stand_length v.rest_are in
       let b = ap length e in

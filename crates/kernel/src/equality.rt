@@ -62,11 +62,11 @@ fn meets<S: Store>(store: &mut S, first: Equation, second: Equation) -> bool
 pub fn trans<S: Store>(
     store: &mut S,
     words: &mut [u64],
-    theory: &Decls<'_>,
+    ground: Ground,
     first: &Sequent,
     second: &Sequent,
 ) -> Result<Sequent, Refusal>
-    requires ground { Grounded (S.state store.old).contents theory.now.ground }
+    requires ground { Grounded (S.state store.old).contents ground }
     requires first { (p : Seq) × IsSeq (S.state store.old).contents p first.now }
     requires second { (q : Seq) × IsSeq (S.state store.old).contents q second.now }
     ensures { (th : Theory) (p q : Seq) → IsSeq (S.state store.old).contents p first.now → IsSeq (S.state store.old).contents q second.now → Gives th (p ∷ q ∷ []) (length words.old) (max (nodes_seq p) (nodes_seq q)) 0 (S.state store.old) (S.state store.new) (k_trans p q) result }
@@ -77,7 +77,7 @@ pub fn trans<S: Store>(
         return Err(Refusal::Unfit);
     }
     let hyps = union(store, words, first.hyps, second.hyps)?;
-    let concl = equation_of(store, theory.ground, left.ty, left.left, right.right)?;
+    let concl = equation_of(store, ground, left.ty, left.left, right.right)?;
     Ok(Sequent { hyps, concl })
 }
 
@@ -102,11 +102,11 @@ fn applied<S: Store>(
 pub fn use_rule<S: Store>(
     store: &mut S,
     words: &mut [u64],
-    theory: &Decls<'_>,
+    ground: Ground,
     functions: &Sequent,
     arguments: &Sequent,
 ) -> Result<Sequent, Refusal>
-    requires ground { Grounded (S.state store.old).contents theory.now.ground }
+    requires ground { Grounded (S.state store.old).contents ground }
     requires first { (p : Seq) × IsSeq (S.state store.old).contents p functions.now }
     requires second { (q : Seq) × IsSeq (S.state store.old).contents q arguments.now }
     ensures { (th : Theory) (p q : Seq) → IsSeq (S.state store.old).contents p functions.now → IsSeq (S.state store.old).contents q arguments.now → Gives th (p ∷ q ∷ []) (length words.old) (max (nodes_seq p) (nodes_seq q)) 0 (S.state store.old) (S.state store.new) (k_use p q) result }
@@ -118,6 +118,6 @@ pub fn use_rule<S: Store>(
         return Err(Refusal::Unfit);
     }
     let hyps = union(store, words, functions.hyps, arguments.hyps)?;
-    let concl = applied(store, theory.ground, ty.cod, fs, xs)?;
+    let concl = applied(store, ground, ty.cod, fs, xs)?;
     Ok(Sequent { hyps, concl })
 }

@@ -1,15 +1,28 @@
 -- What a stack of lent words holds, and what its methods do to it.
-use Rattle.std.specs.Prelude.{◌≡◌, ℕ, ◌+◌, ◌-◌, ◌<◌, List, [], ◌∷◌, length, take, drop, reverse, Some, None, Option, Ok, Err, Result}
+use Rattle.std.specs.Prelude.{◌≡◌, ℕ, ◌+◌, ◌-◌, ◌<◌, List, [], ◌∷◌, ◌++◌, length, take, drop, reverse, Some, None, Option, Ok, Err, Result}
 use Rattle.lent.specs.declared.NoRoom.{NoRoom}
 
--- the words on a stack, the newest first, and how many it can hold
+-- the words on a stack, the newest first; the words that are free, in their order; how many it can hold; and which words these are, by
+-- the ghost name of the reference to all of them
 pub record Pile : Type 0 where
   pub held : List ℕ
+  pub free : List ℕ
   pub capacity : ℕ
+  pub name : ℕ
 
--- a stack of the first n of the words ws
-abbrev pub pile : List ℕ → ℕ → Pile
-pile ws n = record { held = reverse (take n ws); capacity = length ws }
+-- a stack of the first n of the words ws, to which the reference r leads
+abbrev pub pile : List ℕ → ℕ → ℕ → Pile
+pile ws n r = record { held = reverse (take n ws); free = drop n ws; capacity = length ws; name = r }
+
+-- all its words, the oldest first, and behind them those that are free
+abbrev pub all_words : Pile → List ℕ
+all_words p = reverse p.held ++ p.free
+
+-- the same words are on it, of the same words; what those that are free hold is not said
+pub record Same (p q : Pile) : Type 0 where
+  pub held : q.held ≡ p.held
+  pub capacity : q.capacity ≡ p.capacity
+  pub name : q.name ≡ p.name
 
 -- how many more words it can hold
 abbrev pub spare : Pile → ℕ
@@ -17,7 +30,9 @@ spare p = p.capacity - length p.held
 
 -- its n oldest words alone
 abbrev pub cut : ℕ → Pile → Pile
-cut n p = record { held = drop (length p.held - n) p.held; capacity = p.capacity }
+cut n p =
+    let over = length p.held - n in
+    record { held = drop over p.held; free = reverse (take over p.held) ++ p.free; capacity = p.capacity; name = p.name }
 
 -- these words one after the other onto h, so that the last of them is the newest
 abbrev pub onto : List ℕ → List ℕ → List ℕ
@@ -26,15 +41,15 @@ onto (w ∷ ws) h = onto ws (w ∷ h)
 
 -- ws were pushed; or there was no place for all of them, and nothing has changed
 abbrev pub Pushes : List ℕ → Pile → Pile → Result (Unit {0}) NoRoom → Type 0
-Pushes ws p q (Ok x) = (q.held ≡ onto ws p.held) × (q.capacity ≡ p.capacity)
+Pushes ws p q (Ok x) = (q.held ≡ onto ws p.held) × (q.capacity ≡ p.capacity) × (q.name ≡ p.name)
 Pushes ws p q (Err e) = (q ≡ p) × (p.capacity < length p.held + length ws)
 
 -- the newest word was taken; or there was none
 abbrev pub Pops : Pile → Pile → Option ℕ → Type 0
 Pops p q None = (q ≡ p) × (p.held ≡ [])
-Pops p q (Some w) = (p.held ≡ w ∷ q.held) × (q.capacity ≡ p.capacity)
+Pops p q (Some w) = (p.held ≡ w ∷ q.held) × (q.capacity ≡ p.capacity) × (q.name ≡ p.name)
 
 -- the two newest words were taken; or there were not two
 abbrev pub PopsPair : Pile → Pile → Option (ℕ × ℕ) → Type 0
 PopsPair p q None = (q ≡ p) × (length p.held < 2)
-PopsPair p q (Some w) = (p.held ≡ w.0 ∷ w.1 ∷ q.held) × (q.capacity ≡ p.capacity)
+PopsPair p q (Some w) = (p.held ≡ w.0 ∷ w.1 ∷ q.held) × (q.capacity ≡ p.capacity) × (q.name ≡ p.name)

@@ -1,6 +1,6 @@
 // The stack.
 ghost use Rattle.std.specs.Prelude.{◌≡◌, ◌≤◌, [], ◌∷◌, length, reverse};
-ghost use Rattle.lent.specs.Piles.{Pile, pile, cut, Pushes, Pops, PopsPair};
+ghost use Rattle.lent.specs.Piles.{Pile, pile, all_words, cut, Pushes, Pops, PopsPair};
 
 use crate::NoRoom;
 use std::marker::Model;
@@ -19,17 +19,26 @@ pub struct Stack<'w> {
 impl<'w> Model for Stack<'w> {
     ghost Value = { Pile };
 
-    ghost view = { λ s. pile s.words.now s.len };
+    ghost view = { λ s. pile s.words.now s.len s.words.ghost_name };
 
     ghost invariant = { λ s. s.len ≤ length s.words.now };
 }
 
 impl<'w> Stack<'w> {
-    // An empty stack in these words.
+    // An empty stack in these words, which stay as they are.
     pub fn new(words: &'w mut [u64]) -> Stack<'w>
-        ensures { result ≡ record { held = []; capacity = length words.old } }
+        ensures { result ≡ record { held = []; free = words.old; capacity = length words.old; name = words.entry.ghost_name } }
     {
         Stack { words, len: 0 }
+    }
+
+    // The words that were lent: those on the stack, the oldest first, and those that are free.
+    pub fn into_words(self) -> &'w mut [u64]
+        ensures words { result.now ≡ all_words self.entry }
+        ensures name { result.ghost_name ≡ self.entry.name }
+    {
+        let Stack { words, len: _ } = self;
+        words
     }
 }
 

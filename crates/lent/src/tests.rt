@@ -1,5 +1,5 @@
 // Stacks at work: filled to the last word, one above the other, and given back.
-ghost use Rattle.std.specs.Prelude.{◌≡◌};
+ghost use Rattle.lent.specs.Piles.{Same};
 
 use crate::stack::Stack;
 
@@ -15,7 +15,7 @@ fn fill(words: &mut [u64], most: u64) -> u64 {
 
 // The same above a stack: what is on that stays.
 fn fill_above(s: &mut Stack<'_>, most: u64) -> u64
-    ensures { s.new ≡ s.old }
+    ensures { Same s.old s.new }
 {
     fill(&mut s.words[s.len..], most)
 }
@@ -51,4 +51,17 @@ fn nested(rt: HostRuntime) {
     }
     assert_eq!(rt; below.len(), 1);
     assert_eq!(rt; below.pop(), Some(4));
+}
+
+// Who lent the words has them again, with what was written.
+#[test]
+fn given_back(rt: HostRuntime) {
+    let mut words = [1, 2, 3, 4];
+    let mut s = Stack::new(&mut words);
+    assert!(rt; s.push_all(&[7, 8]).is_ok());
+    assert_eq!(rt; s.pop(), Some(8));
+    let back = s.into_words();
+    assert_eq!(rt; back.len(), 4);
+    assert_eq!(rt; back[0], 7);
+    assert_eq!(rt; back[3], 4);
 }

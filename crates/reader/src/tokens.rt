@@ -5,7 +5,7 @@ ghost use Rattle.std.specs.List.{prefix_len};
 ghost use Rattle.hol.specs.Text.{in_words};
 ghost use Rattle.reader.specs.Next.{stream, SkipTo, CommentTo, NextSays, PeekSays};
 
-use crate::kind::Kind;
+pub use crate::kind::Kind;
 
 #[derive(Clone, Copy)]
 pub enum Token<'a> {

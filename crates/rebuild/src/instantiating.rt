@@ -18,7 +18,7 @@ use store::view::TermView;
 // The entries' types for their type variables.
 #[derive(Clone, Copy)]
 pub struct Instantiating<'e> {
-    entries: &'e [u64],
+    pub entries: &'e [u64],
 }
 
 impl<S: Store> Leaf<S> for Instantiating<'_> {

@@ -5,6 +5,7 @@ ghost use Rattle.std.specs.Prelude.{◌≡◌, ℕ, ◌^◌, ◌<◌, true, leng
 ghost use Rattle.std.proofs.Math.Option.{some};
 ghost use Rattle.hol.specs.Syntax.{Ty, Tm, lam};
 ghost use Rattle.store.specs.Measures.{nodes_tm};
+ghost use Rattle.lent.specs.Piles.{Same};
 ghost use Rattle.rebuild_types.specs.Rebuilds.{Rebuilds};
 ghost use Rattle.rebuild.specs.Rebuilt.{Change, rebuilt, is_leaf};
 ghost use Rattle.rebuild.specs.Machine.{Path, Holds, deep, Point, down, At, Moves};
@@ -34,7 +35,7 @@ fn at_leaf<S: Store, L: Leaf<S>>(
 ) -> Result<Turn, NoRoom>
     requires does { (F : Change) × L.does leaf.now (S.state store.old).contents F }
     requires stands { (u : Tm) × ((S.state store.old).contents.term t ≡ some u) }
-    ensures stack { stack.new ≡ stack.old }
+    ensures stack { Same stack.old stack.new }
     ensures moves { (F : Change) (d : ℕ) (p : Path) (u : Tm) → L.does leaf.now (S.state store.old).contents F → (S.state store.old).contents.term t ≡ some u → is_leaf u ≡ true → Holds (S.state store.old).contents stack.old.held p → depth ≡ deep d p → Moves F d stack.old.capacity (S.state store.old) (S.state store.new) stack.old.held (down p u) result }
 {
     let n = leaf.leaf(store, &mut stack.words[stack.len..], t, depth)?;

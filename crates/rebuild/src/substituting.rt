@@ -34,7 +34,7 @@ fn find<S: Store>(store: &mut S, entries: &[u64], x: u64, a: u64) -> Option<u64>
 // The entries' terms for their variables.
 #[derive(Clone, Copy)]
 pub struct Substituting<'e> {
-    entries: &'e [u64],
+    pub entries: &'e [u64],
 }
 
 impl<S: Store> Leaf<S> for Substituting<'_> {

@@ -1,5 +1,5 @@
 -- One lemma for each move of the machine that builds types anew.
-use Rattle.std.proofs.Common.{◌≡◌, ℕ, ◌+◌, ◌<◌, ◌≤◌, List, ◌∷◌, length, Option, Some, None, unwrap_or, sym, refl, ap, ◌∙◌, inl, inr, arith}
+use Rattle.std.proofs.Common.{◌≡◌, ℕ, ◌+◌, ◌<◌, ◌≤◌, List, ◌∷◌, length, Option, Some, None, MatchOption, sym, refl, ap, ◌∙◌, inl, inr, arith}
 use mathlib.Core.Option.{some, none}
 use Rattle.hol.specs.Base.{Word}
 use Rattle.hol.specs.Syntax.{Ty, tyvar, tyapp, Tys, tnil, tcons, TySubst, find_ty, subst_ty, subst_tys}
@@ -10,6 +10,7 @@ use Rattle.store.specs.Views.{ViewVariable, ViewNamed, ViewTypes}
 use Rattle.rebuild_types.specs.Entries.{Finds}
 use Rattle.rebuild_types.specs.Codes.{code}
 use Rattle.rebuild_types.specs.Machine.{Sort, Of, item, nodes_item, Is, Path, args_of, head_of, tail_of, plug, Holds, holds_root, holds_args, holds_head, holds_tail, Point, down, up, end, outcome, spent, At, at_type, at_types, at_up, at_end, Moved, Stuck}
+use Rattle.rebuild_types.specs.declared.turn.Turn.{Turn}
 use Rattle.rebuild_types.specs.declared.turn.Turn.TheVariants.{DownType, DownTypes, Up, End}
 use Rattle.rebuild_types.specs.declared.turn.Wait.{Wait}
 use Rattle.rebuild_types.specs.declared.turn.Wait.TheVariants.{Arguments, Head, Tail}
@@ -44,15 +45,16 @@ module _ (es : TySubst) (s t : State) (ws : List ℕ) (n : ℕ) where
   }
 
   -- a variable: what an entry has for it, or itself where no entry is for it
-  pub variable : (k : ℕ) (o : Option ℕ) {x : Point} → At s.contents ws (DownType n) x → Stays s t
+  pub variable : (k : ℕ) (o : Option ℕ) (r : Turn) {x : Point} → At s.contents ws (DownType n) x → Stays s t
       → ((a : Ty) → s.contents.typ n ≡ some a → ViewVariable s.contents k a)
-      → ((w : Word) → s.contents.word k ≡ some w → Finds s.contents (find_ty es w) o) → Moved es s t ws x (Up (unwrap_or o n))
-  variable k (Some m) at g v q =
-      done_type m at g.grows
-      (λ a e. let w = v a e in rw w.is (found_type es s.contents w.name m (q w.name w.name_is)))
-  variable k None at g v q =
-      done_type n at g.grows
-      (λ a e. let w = v a e in e ∙ ap some (w.is ∙ (sym (kept_type es w.name (q w.name w.name_is)) ∙ ap (subst_ty es) (sym w.is))))
+      → ((w : Word) → s.contents.word k ≡ some w → Finds s.contents (find_ty es w) o)
+      → MatchOption o (r ≡ Up n) (λ m. r ≡ Up m) → Moved es s t ws x r
+  variable k (Some m) r at g v q h =
+      rw h (done_type m at g.grows
+      (λ a e. let w = v a e in rw w.is (found_type es s.contents w.name m (q w.name w.name_is))))
+  variable k None r at g v q h =
+      rw h (done_type n at g.grows
+      (λ a e. let w = v a e in e ∙ ap some (w.is ∙ (sym (kept_type es w.name (q w.name w.name_is)) ∙ ap (subst_ty es) (sym w.is)))))
 
   -- a named type: its name waits for its arguments
   pub into_named : (k as₁ : ℕ) (vs : List ℕ) {x : Point} → At s.contents ws (DownType n) x

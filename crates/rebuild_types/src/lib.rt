@@ -45,7 +45,7 @@ fn down_type<S: Store>(
     ensures moves { (es : TySubst) (x : Point) → TyEntries (S.state store.old).contents entries.now es → At (S.state store.old).contents stack.old.held (Turn.DownType a) x → Moves es stack.old.capacity (S.state store.old) (S.state store.new) stack.new.held x result }
 {
     match store.view_type(a).ok_or(NoRoom)? {
-        TypeView::Variable(name) => Ok(Turn::Up(find(store, entries, name).unwrap_or(a))),
+        TypeView::Variable(name) => Ok(find(store, entries, name).map_or(Turn::Up(a), Turn::Up)),
         TypeView::Named(name, args) => {
             stack.push_all(&[name, Wait::Arguments as u64])?;
             Ok(Turn::DownTypes(args))

@@ -1,3 +1,5 @@
+-- adding to a table
+mod Adding
 -- looking through a table
 mod Looking
 mod Found

@@ -1,5 +1,5 @@
 -- Looking through a table from the newest declaration to the oldest.
-use Rattle.std.proofs.Common.{◌≡◌, ℕ, ◌+◌, ◌*◌, ◌-◌, ◌<◌, ◌≤◌, Bool, true, false, cond, ◌&&◌, List, [], ◌∷◌, ◌++◌, length, reverse, take, drop, get_or, ◌==◌, Some, None, Option as Maybe, sym, refl, ap, ◌∙◌, inl, inr, arith}
+use Rattle.std.proofs.Common.{◌≡◌, ℕ, ◌+◌, ◌-◌, ◌<◌, ◌≤◌, Bool, true, false, cond, ◌&&◌, List, [], ◌∷◌, ◌++◌, length, reverse, take, drop, get_or, ◌==◌, Some, None, Option as Maybe, sym, refl, ap, ◌∙◌, inl, inr, arith}
 use Rattle.std.specs.Option.{is_some}
 use Rattle.std.proofs.lemmas.List.{reverse-append, length-reverse, take-append-drop, drop_more, drop_all}
 use mathlib.Core.Option.{some, none}
@@ -14,12 +14,6 @@ use Rattle.theory.specs.declared.declaration.Declaration.TheVariants.{«Type» a
 use Rattle.theory.specs.Rows.{declaration_of, Says, Table}
 use Rattle.theory.specs.Kept.{says_kept}
 use Rattle.theory.specs.Lookups.{Part, decl_name, newest}
-
--- how many declarations stand in the words
-pub table_length : (c : Contents) (ws : List ℕ) (th : Theory) → Table c ws th → length ws ≡ 4 * length th
-table_length c [] [] x = refl
-table_length c (s ∷ f ∷ n ∷ k ∷ ws) (d ∷ th) x = omega (arith, table_length c ws th x.1)
-table_length c _ _ x = absurd x
 
 -- what a comparison of two numbers says of the names that they stand for
 names_same : (c : Contents) (m n : ℕ) (v w : Word) (r : Bool) → c.word m ≡ some v → c.word n ≡ some w

@@ -7,7 +7,7 @@ use Rattle.theory.specs.declared.declaration.Declaration.{Declaration}
 use Rattle.theory.specs.declared.declaration.Declaration.TheVariants.{«Type» as Typename, Constant, Definition, Axiom, Theorem}
 use Rattle.theory.specs.declared.table.Decls.{Decls}
 use Rattle.theory.specs.Rows.{Says, Table}
-use Rattle.theory.specs.Knows.{Knows}
+use Rattle.theory.specs.Knows.{held, Knows}
 
 pub says_kept : {c e : Contents} → Keeps c e → (r : Declaration) (d : Decl) → Says c r d → Says e r d
 says_kept k (Typename n) (d_type w) s = k.word _ _ s
@@ -25,7 +25,8 @@ table_kept k _ _ x = absurd x
 pub knows_kept : (t : Decls) (c e : Contents) (th : Theory) → Keeps c e → Knows t c th → Knows t e th
 knows_kept t c e th k x =
     record {
-      table = table_kept k t.rows.held th x.table;
+      count = x.count;
+      table = table_kept k (held t) th x.table;
       eq_type = k.typ _ _ x.eq_type;
       choice_type = k.typ _ _ x.choice_type;
     }

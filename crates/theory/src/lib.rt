@@ -4,3 +4,5 @@
 pub mod declaration;
 pub mod ground;
 pub mod table;
+#[cfg(test)]
+mod tests;

@@ -1,14 +1,18 @@
 // The table of what was declared, the oldest first, four words for each declaration.
+ghost use Rattle.std.specs.Prelude.{◌*◌, ◌≤◌, length};
+
 mod add;
 mod find;
 mod lookup;
 
 use crate::ground::Ground;
-use lent::stack::Stack;
 
-// A theory's declarations, on a stack of lent words, and what is always there.
+// A theory's declarations, `used` of them, and what is always there. They stand in words beside a count, and on no `lent::stack::Stack`:
+// its model hides what the words behind the stack are, and here contracts promise that.
 #[derive(Drop)]
 pub struct Decls<'a> {
-    rows: Stack<'a>,
+    words: &'a mut [u64],
+    used: usize,
     pub ground: Ground,
+    ghost fits: { 4 * used ≤ length words.now },
 }

@@ -19,7 +19,7 @@ use Rattle.walk.proofs.Lengths.{type_length}
 use Rattle.typing.specs.Typed.{Typed, Tight, nodes_of, declared, instance}
 
 -- the words of a stack, the oldest first
-pub stacked : (c : Contents) (ws : List ℕ) (n : ℕ) (p : Pile) {us : List Word} → pile ws n ≡ p → Names c (reverse p.held) us → Names c (take n ws) us
+pub stacked : (c : Contents) (ws : List ℕ) (n : ℕ) {r : ℕ} (p : Pile) {us : List Word} → pile ws n r ≡ p → Names c (reverse p.held) us → Names c (take n ws) us
 stacked c ws n p e h = listed c (ap (λ q. q.held) e) h
 
 pub entries_stacked : (c : Contents) {ns ms : List ℕ} {es : TySubst} → reverse ms ≡ ns → TyEntries c (reverse ns) es → TyEntries c ms es

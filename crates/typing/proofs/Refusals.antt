@@ -20,7 +20,7 @@ use Rattle.typing.proofs.Stack.{stack_length, scope-length, Top, top, top-arg, t
 -- the newest word was popped
 pub pops_rest : (f g : Pile) (r : Option ℕ) {n : ℕ} {qs : List ℕ} → Pops f g r → f.held ≡ n ∷ qs → g.held ≡ qs
 pops_rest f g None {n} {qs} (e, z) h = let l = ap length (sym z ∙ h) in absurd (omega arith)
-pops_rest f g (Some m) {n} {qs} (e, z) h = cc
+pops_rest f g (Some m) {n} {qs} (e, z, w) h = cc
 
 -- what the numbers at hand stand for
 pub down-stands : {c : Contents} {ws ss : List ℕ} {n : ℕ} {x : Point} → At c ws ss (Some (Down n)) x → (u : Tm) × (c.term n ≡ some u)

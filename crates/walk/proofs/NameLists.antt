@@ -7,6 +7,7 @@ use Rattle.hol.specs.Syntax.{insert}
 use Rattle.store.specs.State.{Contents, Keeps}
 use Rattle.lent.specs.Piles.{Pile, spare, Pushes}
 use Rattle.lent.specs.declared.NoRoom.{NoRoom}
+use Rattle.lent.proofs.Words.{same_none}
 use Rattle.walk.specs.Standing.{done, more, Names}
 use Rattle.walk.specs.TypeVars.{Adds, Gathers}
 use Rattle.walk.proofs.Pending.{stand_append, stand_kept}
@@ -50,10 +51,10 @@ names_kept k h = stand_kept k.word h
 
 -- PUTTING A NAME ON TOP
 pub adds_none : {p : Pile} → Adds p p
-adds_none = record { added = []; held = refl; capacity = refl }
+adds_none = record { added = []; held = refl; capacity = refl; name = refl }
 
 pub adds_pushed : (n : ℕ) (p q : Pile) (r : Result (Unit {0}) NoRoom) → Pushes (n ∷ []) p q r → Adds p q
-adds_pushed n p q (Ok x) e = record { added = n ∷ []; held = e.0; capacity = e.1 }
+adds_pushed n p q (Ok x) e = record { added = n ∷ []; held = e.0; capacity = e.1; name = e.2 }
 adds_pushed n p q (Err x) e = rw e.0 adds_none
 
 pub adds_trans : {p q r : Pile} → Adds p q → Adds q r → Adds p r
@@ -61,6 +62,7 @@ adds_trans {p} {q} {r} a b = record {
   added = b.added ++ a.added;
   held = b.held ∙ (ap (λ ns. b.added ++ ns) a.held ∙ sym (append_assoc b.added a.added p.held));
   capacity = b.capacity ∙ a.capacity;
+  name = b.name ∙ a.name;
 }
 
 pub adds_long : {p q : Pile} → Adds p q → length p.held ≤ length q.held
@@ -84,4 +86,4 @@ pub put_all : {c d : Contents} → Keeps c d → (w : Word) {ws : List Word} (p 
     → c.word v ≡ some w → among w ws ≡ false → (r : Result (Unit {0}) NoRoom) → Pushes (v ∷ []) p q r
     → Gathers (spare p < 1) d (insert w ws) p q r
 put_all k w p q h v e f (Ok x) b = put_new k w p.held h v e f b.0
-put_all k w p q h v e f (Err x) b = (b.0, omega (arith, b.1))
+put_all k w p q h v e f (Err x) b = (rw b.0 same_none, omega (arith, b.1))

@@ -8,7 +8,7 @@ ghost use Rattle.store.specs.Measures.{nodes_ty, nodes_tys, nodes_tm};
 ghost use Rattle.store.specs.State.{Stays};
 ghost use Rattle.store.specs.Views.{TermSays};
 ghost use Rattle.lent.specs.Answers.{Answers};
-ghost use Rattle.lent.specs.Piles.{spare};
+ghost use Rattle.lent.specs.Piles.{spare, Same};
 ghost use Rattle.walk.specs.Standing.{Names};
 ghost use Rattle.walk.specs.TypeVars.{Adds, Gathers, Short, own_tyvars, own_nodes};
 
@@ -97,7 +97,7 @@ fn tyvars_node<S: Store>(
 ) -> Result<(), NoRoom>
     requires names { (ws : List Word) × Names (S.state store.old).contents (reverse names.old.held) ws }
     requires stands { (t : Tm) × TermSays (S.state store.old).contents t (Some view) }
-    ensures pending { pending.new ≡ pending.old }
+    ensures pending { Same pending.old pending.new }
     ensures stays { Stays (S.state store.old) (S.state store.new) }
     ensures adds { Adds names.old names.new }
     ensures cases { (t : Tm) (ws : List Word) → TermSays (S.state store.old).contents t (Some view) → Names (S.state store.old).contents (reverse names.old.held) ws → Gathers (Short (spare pending.old) (spare names.old) (own_nodes t)) (S.state store.new).contents (own_tyvars t ws) names.old names.new result }

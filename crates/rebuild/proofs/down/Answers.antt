@@ -1,4 +1,3 @@
-use Rattle.std.proofs.Common.{ap}
 use Rattle.store.specs.Views.{ViewLambda}
 use Rattle.rebuild.specs.Machine.{Point, Moved, Moves, Stuck}
 use Rattle.rebuild.specs.declared.turn.Turn.TheVariants.{Down}
@@ -13,10 +12,10 @@ returns-in-Free g c =
     let f = c.args.stack.now in
     let p = c.at_leaf.ensures in
     record {
-      capacity = ap (λ q. q.capacity) p.stack;
+      capacity = p.stack.capacity;
       moves = λ F d x e at a.
           going_down (λ y. Moves F d f.capacity s (st c.at_leaf.new.store) c.at_leaf.new.stack.held y c.at_leaf.result) at
-          (λ o u i h q. rw p.stack (p.moves F d o u e i (leaf_seen s.contents u c.in_ok-ok_or.field-0 c.in-Free.is (rw c.in_ok-ok_or.ensures.ok_part at (c.view_term.ensures u i))) h q));
+          (λ o u i h q. rw p.stack.held (p.moves F d o u e i (leaf_seen s.contents u c.in_ok-ok_or.field-0 c.in-Free.is (rw c.in_ok-ok_or.ensures.ok_part at (c.view_term.ensures u i))) h q));
     }
 
 pub returns-in_ok-push_all-in-Apply-clause-moves : goal.returns-in_ok-push_all-in-Apply-clause-moves

@@ -5,9 +5,9 @@ use Rattle.rebuild_types.proofs.Steps.{variable, into_named, named_stuck}
 pub returns-in-Variable-clause-moves : goal.returns-in-Variable-clause-moves
 returns-in-Variable-clause-moves g c es x e at =
     let st = g.S.Store.state in
-    rw c.unwrap_or.ensures (variable es (st c.args.store.now) (st c.find.new.store) c.args.stack.now.held c.args.a c.in-Variable.name
-    c.find.result at c.find.ensures.stays (λ a i. rw (c.in_ok-name.ensures.ok_part, c.in-Variable.is) at (c.view_type.ensures a i))
-    (λ w i. c.find.ensures.cases es w e i))
+    variable es (st c.args.store.now) (st c.find.new.store) c.args.stack.now.held c.args.a c.in-Variable.name c.find.result c.map_or.result at
+    c.find.ensures.stays (λ a i. rw (c.in_ok-name.ensures.ok_part, c.in-Variable.is) at (c.view_type.ensures a i))
+    (λ w i. c.find.ensures.cases es w e i) c.map_or.ensures
 
 pub returns-in_ok-push_all-in-Named-clause-moves : goal.returns-in_ok-push_all-in-Named-clause-moves
 returns-in_ok-push_all-in-Named-clause-moves g c es x e at =

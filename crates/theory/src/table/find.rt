@@ -24,7 +24,7 @@ impl Decls<'_> {
         ensures stays { Stays (S.state store.old) (S.state store.new) }
         ensures found { (wanted : Decl → Bool) (th : Theory) (w : Word) → Picks (S.state store.old).contents (F.post part) wanted → Knows self.now (S.state store.old).contents th → (S.state store.old).contents.word name ≡ some w → Finds (Part (S.state store.old).contents (F.post part)) (newest wanted w th) result }
     {
-        let mut rest = self.rows.as_slice();
+        let mut rest = &self.words[..4 * self.used];
         while let [older @ .., code, word, first, second] = rest {
             let found = part(Declaration::from([*code, *word, *first, *second]));
             if found.is_some() && store.same_name(name, *word) {

@@ -30,7 +30,7 @@ returns-in_err-list g c h us vs d st e =
     let free = pile-spare _ _ _ c.stack.invariant c.stack.view_is in
     rw w.1
     (elim (c.in_err-list.ensures h v.first k.list does v.first_is k.list_is) [
-      | inl x ↦ inl (rw (← same, ← q.1) (no_words h k q.0 {q = c.pop.new.self} refl (rw free at x)))
+      | inl x ↦ inl (rw (← same, ← q.1) (no_words h k q.0 c.pop.new.self refl (rw free at x)))
       | inr x ↦ inr (no_nodes h k q.0 x)
     ])
 

@@ -41,24 +41,24 @@ pub returns-in-Some-Whole-clause-moves : goal.returns-in-Some-Whole-clause-moves
 returns-in-Some-Whole-clause-moves g c = λ qs x at.
     let i = given_token c.in-Some-Open.ensures.steps c.in-Some-Open.field-0-is in
     let r = rw (c.in-Some-Whole.is, c.in-Some-Whole.field-0-is) at c.in_ok-t-in-Some-Open.ensures in
-    let (h, l) = kept_below c.pending.inside.words.now c.open.new.words c.pending.inside.len c.args.pending.now c.pending.invariant c.pending.view_is c.open.auto.words in
-    rw h (moved (whole_read i (into at i) r))
+    let k = kept_below c.pending.inside.words.now c.open.new.words c.pending.inside.len c.args.pending.now c.pending.invariant c.pending.view_is c.open.auto.words in
+    rw k.held (moved (whole_read i (into at i) r))
 
 pub returns-in_err-push_all-in-Some-Function-clause-moves : goal.returns-in_err-push_all-in-Some-Function-clause-moves
 returns-in_err-push_all-in-Some-Function-clause-moves g c = λ qs x at.
     let i = given_token c.in-Some-Open.ensures.steps c.in-Some-Open.field-0-is in
     let r = rw (c.in-Some-Function.is, c.in-Some-Function.field-0-is) at c.in_ok-t-in-Some-Open.ensures in
-    let (h, l) = kept_below c.pending.inside.words.now c.open.new.words c.pending.inside.len c.args.pending.now c.pending.invariant c.pending.view_is c.open.auto.words in
+    let k = kept_below c.pending.inside.words.now c.open.new.words c.pending.inside.len c.args.pending.now c.pending.invariant c.pending.view_is c.open.auto.words in
     let b = c.in_err-push_all-in-Some-Function.ensures.1 in
     refused _ c.from_residual-in_err-push_all-in-Some-Function.result c.from_residual-in_err-push_all-in-Some-Function.ensures.0
-    (function_full i (into at i) r (omega (arith, ap length h, l, b)))
+    (function_full i (into at i) r (omega (arith, ap length k.held, k.capacity, b)))
 
 pub returns-in_ok-push_all-in-Some-Function-clause-moves : goal.returns-in_ok-push_all-in-Some-Function-clause-moves
 returns-in_ok-push_all-in-Some-Function-clause-moves g c = λ qs x at.
     let i = given_token c.in-Some-Open.ensures.steps c.in-Some-Open.field-0-is in
     let r = rw (c.in-Some-Function.is, c.in-Some-Function.field-0-is) at c.in_ok-t-in-Some-Open.ensures in
-    let (h, l) = kept_below c.pending.inside.words.now c.open.new.words c.pending.inside.len c.args.pending.now c.pending.invariant c.pending.view_is c.open.auto.words in
-    moved (function_next i (into at i) r (c.in_ok-push_all-in-Some-Function.ensures.0 ∙ ap (λ ws. code Function ∷ 0 ∷ ws) h))
+    let k = kept_below c.pending.inside.words.now c.open.new.words c.pending.inside.len c.args.pending.now c.pending.invariant c.pending.view_is c.open.auto.words in
+    moved (function_next i (into at i) r (c.in_ok-push_all-in-Some-Function.ensures.0 ∙ ap (λ ws. code Function ∷ 0 ∷ ws) k.held))
 
 pub returns-in_err-push-in-Some-Under-clause-moves : goal.returns-in_err-push-in-Some-Under-clause-moves
 returns-in_err-push-in-Some-Under-clause-moves g c = λ qs x at.
@@ -71,17 +71,17 @@ pub returns-in_err-push_all-in-Some-Under-clause-moves : goal.returns-in_err-pus
 returns-in_err-push_all-in-Some-Under-clause-moves g c = λ qs x at.
     let i = given_token c.in-Some-Open.ensures.steps c.in-Some-Open.field-0-is in
     let r = rw (c.in-Some-Under.is, c.in-Some-Under.field-0-is) at c.in_ok-t-in-Some-Open.ensures in
-    let (h, l) = kept_below c.pending.inside.words.now c.open.new.words c.pending.inside.len c.args.pending.now c.pending.invariant c.pending.view_is c.open.auto.words in
+    let k = kept_below c.pending.inside.words.now c.open.new.words c.pending.inside.len c.args.pending.now c.pending.invariant c.pending.view_is c.open.auto.words in
     let b = c.in_err-push_all-in-Some-Under.ensures.1 in
     refused _ c.from_residual-in_err-push_all-in-Some-Under.result c.from_residual-in_err-push_all-in-Some-Under.ensures.0
-    (body_full i (into at i) r (omega (arith, ap length h, l, b)))
+    (body_full i (into at i) r (omega (arith, ap length k.held, k.capacity, b)))
 
 pub returns-in_ok-push_all-in-Some-Under-clause-moves : goal.returns-in_ok-push_all-in-Some-Under-clause-moves
 returns-in_ok-push_all-in-Some-Under-clause-moves g c = λ qs x at.
     let i = given_token c.in-Some-Open.ensures.steps c.in-Some-Open.field-0-is in
     let r = rw (c.in-Some-Under.is, c.in-Some-Under.field-0-is) at c.in_ok-t-in-Some-Open.ensures in
-    let (h, l) = kept_below c.pending.inside.words.now c.open.new.words c.pending.inside.len c.args.pending.now c.pending.invariant c.pending.view_is c.open.auto.words in
-    moved (body_next i (into at i) r (c.in_ok-push_all-in-Some-Under.ensures.0 ∙ ap (λ ws. code Body ∷ c.in-Some-Under.variable.ty ∷ ws) h)
+    let k = kept_below c.pending.inside.words.now c.open.new.words c.pending.inside.len c.args.pending.now c.pending.invariant c.pending.view_is c.open.auto.words in
+    moved (body_next i (into at i) r (c.in_ok-push_all-in-Some-Under.ensures.0 ∙ ap (λ ws. code Body ∷ c.in-Some-Under.variable.ty ∷ ws) k.held)
     c.in_ok-push-in-Some-Under.ensures.0)
 
 pub returns-in-Some-Close-clause-moves : goal.returns-in-Some-Close-clause-moves

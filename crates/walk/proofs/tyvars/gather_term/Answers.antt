@@ -65,18 +65,18 @@ loop-next-smaller g c =
     let q = c.loop-next.invariant.3 p.stands.0 p.names.0 p.stands.1 p.names.1 in
     let t = c.in_ok-tyvars_node.ensures in
     term-falls (g.S.Store.state c.loop-next.store).contents c.loop-next.names q c.in-Some.ensures.0 c.term_at-view.result
-    c.term_at-view.ensures t.stays.grows.keeps t.adds (λ x says. t.cases x q.gathered says q.names) (rw t.pending at c.in_ok-push_subterms.ensures.0)
+    c.term_at-view.ensures t.stays.grows.keeps t.adds (λ x says. t.cases x q.gathered says q.names) (rw t.pending.held at c.in_ok-push_subterms.ensures.0)
 
 pub loop-next-preserved : goal.loop-next-preserved
 loop-next-preserved g c =
     let t = c.in_ok-tyvars_node.ensures in (
-      rw t.pending at c.in_ok-push_subterms.ensures.1 ∙ (c.in-Some.ensures.1 ∙ c.loop-next.invariant.0),
+      rw t.pending.capacity at c.in_ok-push_subterms.ensures.1 ∙ (c.in-Some.ensures.1 ∙ c.loop-next.invariant.0),
       stays_on c.loop-next.invariant.1 t.stays,
       adds_trans c.loop-next.invariant.2 t.adds,
       λ u ws hu h.
           let q = c.loop-next.invariant.3 u ws hu h in
           term_turned (g.S.Store.state c.loop-next.store).contents c.loop-next.names q c.in-Some.ensures.0 c.term_at-view.result
-          c.term_at-view.ensures t.stays.grows.keeps t.adds (λ x says. t.cases x q.gathered says q.names) (rw t.pending at c.in_ok-push_subterms.ensures.0),
+          c.term_at-view.ensures t.stays.grows.keeps t.adds (λ x says. t.cases x q.gathered says q.names) (rw t.pending.held at c.in_ok-push_subterms.ensures.0),
     )
 
 pub returns-in_err-push_subterms-clause-adds : goal.returns-in_err-push_subterms-clause-adds
@@ -90,7 +90,7 @@ returns-in_err-push_subterms-clause-cases g c u ws hu h =
     c.term_at-view.ensures t.stays.grows.keeps t.adds (λ x says. t.cases x q.gathered says q.names) in
     let a = adds_long (adds_trans c.loop-next.invariant.2 t.adds) in
     refused _ c.from_residual-in_err-push_subterms.result c.from_residual-in_err-push_subterms.ensures.0
-    (inl (omega (arith, l, a, rw t.pending at c.in_err-push_subterms.ensures.1, c.in-Some.ensures.1, c.loop-next.invariant.0)))
+    (inl (omega (arith, l, a, rw (t.pending.held, t.pending.capacity) at c.in_err-push_subterms.ensures.1, c.in-Some.ensures.1, c.loop-next.invariant.0)))
 
 pub returns-clause-cases : goal.returns-clause-cases
 returns-clause-cases g c u ws hu h = gathered_all (c.loop-next.invariant.3 u ws hu h) c.in_default.ensures.1

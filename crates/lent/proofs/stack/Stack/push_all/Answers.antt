@@ -11,5 +11,5 @@ pub returns : goal.returns
 returns c =
     let e : c.self.inside.len + length c.args.words.now - c.self.inside.len ≡ length c.args.words.now = omega arith in
     let l = c.self.invariant in
-    let p = pushed c.self.inside.words.now c.args.words.now c.self.inside.len _ c.self.invariant refl (omega (arith, l, c.if-words-self.false)) in
-    rw (e, c.copy_from_slice.ensures.after, ← c.self.view_is) (ap (λ o. o.held) p, ap (λ o. o.capacity) p)
+    let p = pushed c.self.inside.words.now c.args.words.now c.self.inside.len _ c.self.inside.words.ghost_name c.self.invariant refl (omega (arith, l, c.if-words-self.false)) in
+    rw (e, c.copy_from_slice.ensures.after, ← c.self.view_is) (ap (λ o. o.held) p, ap (λ o. o.capacity) p, refl)
