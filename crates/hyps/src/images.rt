@@ -6,6 +6,7 @@ ghost use Rattle.hol.specs.Kernel.{in_hyps, dedup};
 ghost use Rattle.store.specs.Measures.{nodes_tm, nodes_tms};
 ghost use Rattle.store.specs.State.{Contents, Keeps};
 ghost use Rattle.store.specs.Builds.{Made};
+ghost use Rattle.lent.specs.Piles.{pile_of};
 ghost use Rattle.lent.specs.Answers.{Answers};
 ghost use Rattle.hyps.specs.Sifting.{put, extra, poured, Stand, IsTerm, IsList, Lists};
 
@@ -78,14 +79,14 @@ fn gather_images<S: Store, M: TermMap<S>>(
     start: u64,
 ) -> Result<u64, NoRoom>
     requires map { (h : Tm → Tm) × M.does map.now (S.state store.old).contents h }
-    requires stand { (us : List Tm) × Stand (S.state store.old).contents stack.old.held us }
+    requires stand { (us : List Tm) × Stand (S.state store.old).contents (pile_of stack.old).held us }
     requires list { (vs : List Tm) × ((S.state store.old).contents.terms start ≡ some vs) }
     ensures { (h : Tm → Tm) (us vs : List Tm)
         → M.does map.now (S.state store.old).contents h
-        → Stand (S.state store.old).contents stack.old.held us
+        → Stand (S.state store.old).contents (pile_of stack.old).held us
         → (S.state store.old).contents.terms start ≡ some vs
         → Lists
-        ((stack.old.capacity < 5 * nodes_tms us)
+        (((pile_of stack.old).capacity < 5 * nodes_tms us)
         ⊎ ((S.state store.old).left < 2 * nodes_tms (poured in_hyps h us vs)))
         (poured in_hyps h us vs) (S.state store.old) (S.state store.new) result }
 {

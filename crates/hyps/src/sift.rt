@@ -5,6 +5,7 @@ ghost use Rattle.hol.specs.Syntax.{Tm};
 ghost use Rattle.store.specs.Measures.{nodes_tms};
 ghost use Rattle.store.specs.State.{Stays};
 ghost use Rattle.store.specs.Builds.{Made};
+ghost use Rattle.lent.specs.Piles.{pile_of};
 ghost use Rattle.lent.specs.Answers.{Answers};
 ghost use Rattle.hyps.specs.Sifting.{put, extra, sifted, poured, Stand, Spreads, IsList, Lists};
 ghost use Rattle.hyps.specs.Leaving.{Leaves};
@@ -63,12 +64,12 @@ fn put_before<S: Store>(
 
 // The terms of the list `hs` onto an empty stack, the last of them the newest.
 pub fn spread<S: Store>(store: &S, stack: &mut Stack<'_>, hs: u64) -> Result<(), NoRoom>
-    requires empty { stack.old.held ≡ [] }
+    requires empty { (pile_of stack.old).held ≡ [] }
     requires list { (us : List Tm) × ((S.state store.now).contents.terms hs ≡ some us) }
-    ensures capacity { stack.new.capacity ≡ stack.old.capacity }
+    ensures capacity { (pile_of stack.new).capacity ≡ (pile_of stack.old).capacity }
     ensures cases { (us : List Tm)
         → (S.state store.now).contents.terms hs ≡ some us
-        → Spreads (S.state store.now).contents us stack.old stack.new result }
+        → Spreads (S.state store.now).contents us (pile_of stack.old) (pile_of stack.new) result }
 {
     // The list lies in the store, by numbers: an iterator over it would say of each number what `terms_at` says, and no less.
     let mut rest = hs;
@@ -87,11 +88,11 @@ fn gather<S: Store>(
     start: u64,
 ) -> Result<u64, NoRoom>
     requires test { (p : Tm → List Tm → Bool) × Leaves (S.state store.old).contents left_out p }
-    requires stand { (us : List Tm) × Stand (S.state store.old).contents stack.old.held us }
+    requires stand { (us : List Tm) × Stand (S.state store.old).contents (pile_of stack.old).held us }
     requires list { (vs : List Tm) × ((S.state store.old).contents.terms start ≡ some vs) }
     ensures { (p : Tm → List Tm → Bool) (us vs : List Tm)
         → Leaves (S.state store.old).contents left_out p
-        → Stand (S.state store.old).contents stack.old.held us
+        → Stand (S.state store.old).contents (pile_of stack.old).held us
         → (S.state store.old).contents.terms start ≡ some vs
         → Lists
         ((S.state store.old).left < nodes_tms (poured p (λ u. u) us vs))

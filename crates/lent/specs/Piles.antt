@@ -1,28 +1,21 @@
 -- What a stack of lent words holds, and what its methods do to it.
-use Rattle.std.specs.Prelude.{◌≡◌, ℕ, ◌+◌, ◌-◌, ◌<◌, List, [], ◌∷◌, ◌++◌, length, take, drop, reverse, Some, None, Option, Ok, Err, Result}
+use Rattle.std.specs.Prelude.{◌≡◌, ℕ, ◌+◌, ◌-◌, ◌<◌, List, [], ◌∷◌, length, take, drop, reverse, Some, None, Option, Ok, Err, Result}
 use Rattle.lent.specs.declared.NoRoom.{NoRoom}
+use Rattle.lent.specs.declared.stack.Stack.{Stack}
 
--- the words on a stack, the newest first; the words that are free, in their order; how many it can hold; and which words these are, by
--- the ghost name of the reference to all of them
+-- the words on a stack, the newest first; how many it can hold; and which words these are, by the ghost name of the reference to them
 pub record Pile : Type 0 where
   pub held : List ℕ
-  pub free : List ℕ
   pub capacity : ℕ
   pub name : ℕ
 
 -- a stack of the first n of the words ws, to which the reference r leads
 abbrev pub pile : List ℕ → ℕ → ℕ → Pile
-pile ws n r = record { held = reverse (take n ws); free = drop n ws; capacity = length ws; name = r }
+pile ws n r = record { held = reverse (take n ws); capacity = length ws; name = r }
 
--- all its words, the oldest first, and behind them those that are free
-abbrev pub all_words : Pile → List ℕ
-all_words p = reverse p.held ++ p.free
-
--- the same words are on it, of the same words; what those that are free hold is not said
-pub record Same (p q : Pile) : Type 0 where
-  pub held : q.held ≡ p.held
-  pub capacity : q.capacity ≡ p.capacity
-  pub name : q.name ≡ p.name
+-- what a stack is to those who call it: contracts speak of this, and of the words alone where these are made or given back
+unfoldable pub pile_of : Stack → Pile
+pile_of s = pile s.words.now s.len s.words.ghost_name
 
 -- how many more words it can hold
 abbrev pub spare : Pile → ℕ
@@ -30,9 +23,7 @@ spare p = p.capacity - length p.held
 
 -- its n oldest words alone
 abbrev pub cut : ℕ → Pile → Pile
-cut n p =
-    let over = length p.held - n in
-    record { held = drop over p.held; free = reverse (take over p.held) ++ p.free; capacity = p.capacity; name = p.name }
+cut n p = record { held = drop (length p.held - n) p.held; capacity = p.capacity; name = p.name }
 
 -- these words one after the other onto h, so that the last of them is the newest
 abbrev pub onto : List ℕ → List ℕ → List ℕ

@@ -1,5 +1,6 @@
 // Stacks at work: filled to the last word, one above the other, and given back.
-ghost use Rattle.lent.specs.Piles.{Same};
+ghost use Rattle.std.specs.Prelude.{◌≡◌, ◌<◌, length, slice_index};
+ghost use Rattle.lent.specs.Piles.{pile_of};
 
 use crate::stack::Stack;
 
@@ -15,7 +16,8 @@ fn fill(words: &mut [u64], most: u64) -> u64 {
 
 // The same above a stack: what is on that stays.
 fn fill_above(s: &mut Stack<'_>, most: u64) -> u64
-    ensures { Same s.old s.new }
+    ensures same { pile_of s.new ≡ pile_of s.old }
+    ensures words_name { s.new.words.ghost_name ≡ s.old.words.ghost_name }
 {
     fill(&mut s.words[s.len..], most)
 }
@@ -34,34 +36,52 @@ fn newest_first(rt: HostRuntime) {
     assert_eq!(rt; s.pop(), None);
 }
 
+// What a stack in these words takes above it, up to 100 and up to 2, and what is on it then.
+fn stacked(words: &mut [u64]) -> (u64, u64, Option<u64>, Option<u64>) {
+    let mut s = Stack::new(words);
+    let _ = s.push(5);
+    let _ = s.push(6);
+    let all = fill_above(&mut s, 100);
+    let two = fill_above(&mut s, 2);
+    (all, two, s.pop(), s.pop())
+}
+
+// The same above a stack.
+fn stacked_above(s: &mut Stack<'_>) -> (u64, u64, Option<u64>, Option<u64>) {
+    stacked(&mut s.words[s.len..])
+}
+
 #[test]
 fn nested(rt: HostRuntime) {
     let mut words = [0; 6];
     let mut below = Stack::new(&mut words);
     assert!(rt; below.push(4).is_ok());
-    {
-        let len = below.len;
-        let mut s = Stack::new(&mut below.words[len..]);
-        assert!(rt; s.push(5).is_ok());
-        assert!(rt; s.push(6).is_ok());
-        assert_eq!(rt; fill_above(&mut s, 100), 3);
-        assert_eq!(rt; fill_above(&mut s, 2), 2);
-        assert_eq!(rt; s.pop(), Some(6));
-        assert_eq!(rt; s.pop(), Some(5));
-    }
+    assert_eq!(rt; stacked_above(&mut below), (3, 2, Some(6), Some(5)));
     assert_eq!(rt; below.len(), 1);
     assert_eq!(rt; below.pop(), Some(4));
 }
 
-// Who lent the words has them again, with what was written.
+// Words in which a stack was made are as they were, but for what was put on it.
+fn untouched(words: &mut [u64])
+    ensures { words.new ≡ words.old }
+{
+    let _ = Stack::new(words);
+}
+
+#[tactic(auto, unfolding(crate::specs::Piles::pile_of))]
+fn put(words: &mut [u64], word: u64)
+    requires { 0 < length words.old }
+    ensures { slice_index words.new 0 ≡ word }
+{
+    let mut s = Stack::new(words);
+    let _ = s.push(word);
+}
+
 #[test]
 fn given_back(rt: HostRuntime) {
-    let mut words = [1, 2, 3, 4];
-    let mut s = Stack::new(&mut words);
-    assert!(rt; s.push_all(&[7, 8]).is_ok());
-    assert_eq!(rt; s.pop(), Some(8));
-    let back = s.into_words();
-    assert_eq!(rt; back.len(), 4);
-    assert_eq!(rt; back[0], 7);
-    assert_eq!(rt; back[3], 4);
+    let mut words = [1, 2, 3];
+    untouched(&mut words);
+    assert_eq!(rt; words, [1, 2, 3]);
+    put(&mut words, 7);
+    assert_eq!(rt; words, [7, 2, 3]);
 }

@@ -1,3 +1,4 @@
+ghost use Rattle.lent.specs.Piles.{pile_of};
 // The λs around, by the names of their variables.
 ghost use Rattle.std.specs.Prelude.{◌≡◌, List};
 ghost use Rattle.hol.specs.Base.{Word};
@@ -10,7 +11,7 @@ use store::Store;
 
 // How many λs outwards the innermost one stands whose variable has this name.
 pub fn lookup<S: Store>(store: &S, names: &Stack<'_>, w: &[u8]) -> Option<u64>
-    ensures { (xs : List Word) → Names (S.state store.now).contents names.now.held xs → Places (index_of w.now xs 0) result }
+    ensures { (xs : List Word) → Names (S.state store.now).contents (pile_of names.now).held xs → Places (index_of w.now xs 0) result }
 {
     // Counted, and not by `position`: what `is_named` answers of a number that stands for no name is not said.
     let mut outwards = 0;

@@ -1,3 +1,4 @@
+ghost use Rattle.lent.specs.Piles.{pile_of};
 // The loop that reads a term.
 ghost use Rattle.std.specs.Prelude.{◌≡◌, ℕ, Some, ◌≤◌, ◌⊎◌, List, [], ◌∷◌, ◌++◌, length};
 ghost use Rattle.hol.specs.Text.{Token as Sign, closes, Sexp, read_term};
@@ -22,9 +23,9 @@ fn down<S: Store>(
     names: &mut Stack<'_>,
     tokens: &mut Tokens<'_>,
 ) -> Result<Option<Turn>, NoRoom>
-    ensures capacity { pending.new.capacity ≡ pending.old.capacity }
-    ensures names { names.new.capacity ≡ names.old.capacity }
-    ensures moves { (qs : List Sign) (x : Point) → At (S.state store.old).contents pending.old.held names.old.held (stream tokens.old) qs Turn.Down x → Moves (load (Some Turn.Down) pending.old.held (stream tokens.old)) pending.old.capacity names.old.capacity (S.state store.old) (S.state store.new) pending.new.held names.new.held (stream tokens.new) qs x result }
+    ensures capacity { (pile_of pending.new).capacity ≡ (pile_of pending.old).capacity }
+    ensures names { (pile_of names.new).capacity ≡ (pile_of names.old).capacity }
+    ensures moves { (qs : List Sign) (x : Point) → At (S.state store.old).contents (pile_of pending.old).held (pile_of names.old).held (stream tokens.old) qs Turn.Down x → Moves (load (Some Turn.Down) (pile_of pending.old).held (stream tokens.old)) (pile_of pending.old).capacity (pile_of names.old).capacity (S.state store.old) (S.state store.new) (pile_of pending.new).held (pile_of names.new).held (stream tokens.new) qs x result }
 {
     match tokens.next() {
         Some(Token::Word(w)) => {
@@ -59,9 +60,9 @@ fn up<S: Store>(
     tokens: &mut Tokens<'_>,
     t: u64,
 ) -> Result<Option<Turn>, NoRoom>
-    ensures capacity { pending.new.capacity ≡ pending.old.capacity }
-    ensures names { names.new.capacity ≡ names.old.capacity }
-    ensures moves { (qs : List Sign) (x : Point) → At (S.state store.old).contents pending.old.held names.old.held (stream tokens.old) qs (Turn.Up t) x → Moves (load (Some (Turn.Up t)) pending.old.held (stream tokens.old)) pending.old.capacity names.old.capacity (S.state store.old) (S.state store.new) pending.new.held names.new.held (stream tokens.new) qs x result }
+    ensures capacity { (pile_of pending.new).capacity ≡ (pile_of pending.old).capacity }
+    ensures names { (pile_of names.new).capacity ≡ (pile_of names.old).capacity }
+    ensures moves { (qs : List Sign) (x : Point) → At (S.state store.old).contents (pile_of pending.old).held (pile_of names.old).held (stream tokens.old) qs (Turn.Up t) x → Moves (load (Some (Turn.Up t)) (pile_of pending.old).held (stream tokens.old)) (pile_of pending.old).capacity (pile_of names.old).capacity (S.state store.old) (S.state store.new) (pile_of pending.new).held (pile_of names.new).held (stream tokens.new) qs x result }
 {
     let Some((wait, kept)) = pending.pop_pair() else {
         return Ok(Some(Turn::End(t)));

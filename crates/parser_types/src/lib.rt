@@ -7,6 +7,7 @@ ghost use Rattle.hol.specs.Text.{Token as Sign, closes, Sexp, Sexps, read_type, 
 ghost use Rattle.reader.specs.Flat.{flat, flats, cost, costs};
 ghost use Rattle.reader.specs.Next.{stream};
 ghost use Rattle.parser_types.specs.Reads.{Reads, Absent, WordSays, NameSays};
+ghost use Rattle.lent.specs.Piles.{pile_of};
 ghost use Rattle.parser_types.specs.Machine.{Point, At, Moves, Advances, Falls, FallsOn};
 
 pub mod turn;
@@ -52,9 +53,9 @@ fn advance<S: Store>(
     pending: &mut Stack<'_>,
     tokens: &mut Tokens<'_>,
 ) -> Result<Option<Turn>, NoRoom>
-    ensures capacity { pending.new.capacity ≡ pending.old.capacity }
-    ensures moves { (qs : List Sign) (x : Point) → At (S.state store.old).contents pending.old.held (stream tokens.old) qs Turn.Next x → Advances pending.old.capacity (S.state store.old) (S.state store.new) pending.new.held (stream tokens.new) qs x result }
-    ensures falls { FallsOn Turn.Next pending.old.held (stream tokens.old) pending.new.held (stream tokens.new) result }
+    ensures capacity { (pile_of pending.new).capacity ≡ (pile_of pending.old).capacity }
+    ensures moves { (qs : List Sign) (x : Point) → At (S.state store.old).contents (pile_of pending.old).held (stream tokens.old) qs Turn.Next x → Advances (pile_of pending.old).capacity (S.state store.old) (S.state store.new) (pile_of pending.new).held (stream tokens.new) qs x result }
+    ensures falls { FallsOn Turn.Next (pile_of pending.old).held (stream tokens.old) (pile_of pending.new).held (stream tokens.new) result }
 {
     match tokens.next() {
         Some(Token::Word(w)) => {
@@ -76,9 +77,9 @@ fn advance<S: Store>(
 
 // Takes the newest pair off the stack, where a bracket closed: a type comes before the list, a name makes a type of it.
 fn collect<S: Store>(store: &mut S, pending: &mut Stack<'_>, list: u64) -> Result<Turn, NoRoom>
-    ensures capacity { pending.new.capacity ≡ pending.old.capacity }
-    ensures moves { (ps qs : List Sign) (x : Point) → At (S.state store.old).contents pending.old.held ps qs (Turn.Close list) x → Moves pending.old.capacity (S.state store.old) (S.state store.new) pending.new.held ps qs x result }
-    ensures falls { (ps : List Sign) → Falls (Turn.Close list) pending.old.held ps pending.new.held ps result }
+    ensures capacity { (pile_of pending.new).capacity ≡ (pile_of pending.old).capacity }
+    ensures moves { (ps qs : List Sign) (x : Point) → At (S.state store.old).contents (pile_of pending.old).held ps qs (Turn.Close list) x → Moves (pile_of pending.old).capacity (S.state store.old) (S.state store.new) (pile_of pending.new).held ps qs x result }
+    ensures falls { (ps : List Sign) → Falls (Turn.Close list) (pile_of pending.old).held ps (pile_of pending.new).held ps result }
 {
     let Some((mark, n)) = pending.pop_pair() else {
         return Ok(Turn::End(list));

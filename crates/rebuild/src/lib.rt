@@ -5,7 +5,7 @@ ghost use Rattle.std.specs.Prelude.{◌≡◌, ℕ, ◌^◌, ◌<◌, true, leng
 ghost use Rattle.std.proofs.Math.Option.{some};
 ghost use Rattle.hol.specs.Syntax.{Ty, Tm, lam};
 ghost use Rattle.store.specs.Measures.{nodes_tm};
-ghost use Rattle.lent.specs.Piles.{Same};
+ghost use Rattle.lent.specs.Piles.{pile_of};
 ghost use Rattle.rebuild_types.specs.Rebuilds.{Rebuilds};
 ghost use Rattle.rebuild.specs.Rebuilt.{Change, rebuilt, is_leaf};
 ghost use Rattle.rebuild.specs.Machine.{Path, Holds, deep, Point, down, At, Moves};
@@ -35,8 +35,8 @@ fn at_leaf<S: Store, L: Leaf<S>>(
 ) -> Result<Turn, NoRoom>
     requires does { (F : Change) × L.does leaf.now (S.state store.old).contents F }
     requires stands { (u : Tm) × ((S.state store.old).contents.term t ≡ some u) }
-    ensures stack { Same stack.old stack.new }
-    ensures moves { (F : Change) (d : ℕ) (p : Path) (u : Tm) → L.does leaf.now (S.state store.old).contents F → (S.state store.old).contents.term t ≡ some u → is_leaf u ≡ true → Holds (S.state store.old).contents stack.old.held p → depth ≡ deep d p → Moves F d stack.old.capacity (S.state store.old) (S.state store.new) stack.old.held (down p u) result }
+    ensures stack { pile_of stack.new ≡ pile_of stack.old }
+    ensures moves { (F : Change) (d : ℕ) (p : Path) (u : Tm) → L.does leaf.now (S.state store.old).contents F → (S.state store.old).contents.term t ≡ some u → is_leaf u ≡ true → Holds (S.state store.old).contents (pile_of stack.old).held p → depth ≡ deep d p → Moves F d (pile_of stack.old).capacity (S.state store.old) (S.state store.new) (pile_of stack.old).held (down p u) result }
 {
     let n = leaf.leaf(store, &mut stack.words[stack.len..], t, depth)?;
     Ok(Turn::Up(n, depth))
@@ -53,8 +53,8 @@ fn into_lambda<S: Store, L: Leaf<S>>(
 ) -> Result<Turn, NoRoom>
     requires does { (F : Change) × L.does leaf.now (S.state store.old).contents F }
     requires stands { (b : Ty) × ((S.state store.old).contents.typ a ≡ some b) }
-    ensures capacity { stack.new.capacity ≡ stack.old.capacity }
-    ensures moves { (F : Change) (d : ℕ) (p : Path) (b : Ty) (u : Tm) → L.does leaf.now (S.state store.old).contents F → (S.state store.old).contents.typ a ≡ some b → (S.state store.old).contents.term body ≡ some u → Holds (S.state store.old).contents stack.old.held p → depth ≡ deep d p → d < 2 ^ 63 → Moves F d stack.old.capacity (S.state store.old) (S.state store.new) stack.new.held (down p (lam b u)) result }
+    ensures capacity { (pile_of stack.new).capacity ≡ (pile_of stack.old).capacity }
+    ensures moves { (F : Change) (d : ℕ) (p : Path) (b : Ty) (u : Tm) → L.does leaf.now (S.state store.old).contents F → (S.state store.old).contents.typ a ≡ some b → (S.state store.old).contents.term body ≡ some u → Holds (S.state store.old).contents (pile_of stack.old).held p → depth ≡ deep d p → d < 2 ^ 63 → Moves F d (pile_of stack.old).capacity (S.state store.old) (S.state store.new) (pile_of stack.new).held (down p (lam b u)) result }
 {
     let b = leaf.typ(store, &mut stack.words[stack.len..], a)?;
     let under = depth.checked_add(1).ok_or(NoRoom)?;
@@ -72,8 +72,8 @@ fn down<S: Store, L: Leaf<S>>(
 ) -> Result<Turn, NoRoom>
     requires does { (F : Change) × L.does leaf.now (S.state store.old).contents F }
     requires stands { (u : Tm) × ((S.state store.old).contents.term t ≡ some u) }
-    ensures capacity { stack.new.capacity ≡ stack.old.capacity }
-    ensures moves { (F : Change) (d : ℕ) (x : Point) → L.does leaf.now (S.state store.old).contents F → At d (S.state store.old).contents stack.old.held (Turn.Down t depth) x → d < 2 ^ 63 → Moves F d stack.old.capacity (S.state store.old) (S.state store.new) stack.new.held x result }
+    ensures capacity { (pile_of stack.new).capacity ≡ (pile_of stack.old).capacity }
+    ensures moves { (F : Change) (d : ℕ) (x : Point) → L.does leaf.now (S.state store.old).contents F → At d (S.state store.old).contents (pile_of stack.old).held (Turn.Down t depth) x → d < 2 ^ 63 → Moves F d (pile_of stack.old).capacity (S.state store.old) (S.state store.new) (pile_of stack.new).held x result }
 {
     match store.view_term(t).ok_or(NoRoom)? {
         TermView::Free(_, _) | TermView::Bound(_) | TermView::Constant(_, _) => at_leaf(
@@ -89,8 +89,8 @@ fn down<S: Store, L: Leaf<S>>(
 
 // Up with what was built, to what waits for it.
 fn up<S: Store>(store: &mut S, stack: &mut Stack<'_>, n: u64, depth: u64) -> Result<Turn, NoRoom>
-    ensures capacity { stack.new.capacity ≡ stack.old.capacity }
-    ensures moves { (F : Change) (d : ℕ) (x : Point) → At d (S.state store.old).contents stack.old.held (Turn.Up n depth) x → Moves F d stack.old.capacity (S.state store.old) (S.state store.new) stack.new.held x result }
+    ensures capacity { (pile_of stack.new).capacity ≡ (pile_of stack.old).capacity }
+    ensures moves { (F : Change) (d : ℕ) (x : Point) → At d (S.state store.old).contents (pile_of stack.old).held (Turn.Up n depth) x → Moves F d (pile_of stack.old).capacity (S.state store.old) (S.state store.new) (pile_of stack.new).held x result }
 {
     let Some((k, kept)) = stack.pop_pair() else {
         return Ok(Turn::End(n));

@@ -5,6 +5,7 @@ ghost use Rattle.std.specs.Prelude.{◌≡◌, [], length};
 ghost use Rattle.std.proofs.Math.Option.{some};
 ghost use Rattle.hol.specs.Base.{Word};
 ghost use Rattle.hol.specs.Syntax.{Ty, Tys, TySubst, find_ty, subst_ty, subst_tys};
+ghost use Rattle.lent.specs.Piles.{pile_of};
 ghost use Rattle.store.specs.Measures.{nodes_ty, nodes_tys};
 ghost use Rattle.store.specs.State.{Stays};
 ghost use Rattle.rebuild_types.specs.Entries.{TyEntries, Finds};
@@ -41,8 +42,8 @@ fn down_type<S: Store>(
     entries: &[u64],
     a: u64,
 ) -> Result<Turn, NoRoom>
-    ensures capacity { stack.new.capacity ≡ stack.old.capacity }
-    ensures moves { (es : TySubst) (x : Point) → TyEntries (S.state store.old).contents entries.now es → At (S.state store.old).contents stack.old.held (Turn.DownType a) x → Moves es stack.old.capacity (S.state store.old) (S.state store.new) stack.new.held x result }
+    ensures capacity { (pile_of stack.new).capacity ≡ (pile_of stack.old).capacity }
+    ensures moves { (es : TySubst) (x : Point) → TyEntries (S.state store.old).contents entries.now es → At (S.state store.old).contents (pile_of stack.old).held (Turn.DownType a) x → Moves es (pile_of stack.old).capacity (S.state store.old) (S.state store.new) (pile_of stack.new).held x result }
 {
     match store.view_type(a).ok_or(NoRoom)? {
         TypeView::Variable(name) => Ok(find(store, entries, name).map_or(Turn::Up(a), Turn::Up)),
@@ -55,8 +56,8 @@ fn down_type<S: Store>(
 
 // Down into a list of types: the empty list is done, of another the rest waits for the first.
 fn down_types<S: Store>(store: &mut S, stack: &mut Stack<'_>, list: u64) -> Result<Turn, NoRoom>
-    ensures capacity { stack.new.capacity ≡ stack.old.capacity }
-    ensures moves { (es : TySubst) (x : Point) → At (S.state store.old).contents stack.old.held (Turn.DownTypes list) x → Moves es stack.old.capacity (S.state store.old) (S.state store.new) stack.new.held x result }
+    ensures capacity { (pile_of stack.new).capacity ≡ (pile_of stack.old).capacity }
+    ensures moves { (es : TySubst) (x : Point) → At (S.state store.old).contents (pile_of stack.old).held (Turn.DownTypes list) x → Moves es (pile_of stack.old).capacity (S.state store.old) (S.state store.new) (pile_of stack.new).held x result }
 {
     match store.view_types(list).ok_or(NoRoom)? {
         ListView::Nil => Ok(Turn::Up(list)),
@@ -69,8 +70,8 @@ fn down_types<S: Store>(store: &mut S, stack: &mut Stack<'_>, list: u64) -> Resu
 
 // Up with what was built, to what waits for it.
 fn up<S: Store>(store: &mut S, stack: &mut Stack<'_>, n: u64) -> Result<Turn, NoRoom>
-    ensures capacity { stack.new.capacity ≡ stack.old.capacity }
-    ensures moves { (es : TySubst) (x : Point) → At (S.state store.old).contents stack.old.held (Turn.Up n) x → Moves es stack.old.capacity (S.state store.old) (S.state store.new) stack.new.held x result }
+    ensures capacity { (pile_of stack.new).capacity ≡ (pile_of stack.old).capacity }
+    ensures moves { (es : TySubst) (x : Point) → At (S.state store.old).contents (pile_of stack.old).held (Turn.Up n) x → Moves es (pile_of stack.old).capacity (S.state store.old) (S.state store.new) (pile_of stack.new).held x result }
 {
     let Some((k, kept)) = stack.pop_pair() else {
         return Ok(Turn::End(n));

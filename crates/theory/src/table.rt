@@ -8,7 +8,7 @@ mod lookup;
 use crate::ground::Ground;
 
 // A theory's declarations, `used` of them, and what is always there. They stand in words beside a count, and on no `lent::stack::Stack`:
-// its model hides what the words behind the stack are, and here contracts promise that.
+// that says nothing of the words that are free, and here contracts promise that a refused declaration leaves all words as they are.
 #[derive(Drop)]
 pub struct Decls<'a> {
     words: &'a mut [u64],

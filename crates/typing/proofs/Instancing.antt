@@ -9,7 +9,8 @@ use Rattle.store.specs.Measures.{nodes_ty, nodes_tys}
 use Rattle.store.specs.State.{Contents, State, Stays}
 use Rattle.store.specs.Builds.{Made}
 use Rattle.store.proofs.Growth.{grows_on, grows-more}
-use Rattle.lent.specs.Piles.{Pile, pile}
+use Rattle.lent.specs.Piles.{Pile, pile, pile_of}
+use Rattle.lent.specs.declared.stack.Stack.{Stack}
 use Rattle.rebuild_types.specs.Entries.{TyEntries}
 use Rattle.walk.specs.TypeVars.{Short}
 use Rattle.walk.specs.Standing.{Names}
@@ -19,8 +20,12 @@ use Rattle.walk.proofs.Lengths.{type_length}
 use Rattle.typing.specs.Typed.{Typed, Tight, nodes_of, declared, instance}
 
 -- the words of a stack, the oldest first
-pub stacked : (c : Contents) (ws : List ℕ) (n : ℕ) {r : ℕ} (p : Pile) {us : List Word} → pile ws n r ≡ p → Names c (reverse p.held) us → Names c (take n ws) us
+stacked : (c : Contents) (ws : List ℕ) (n : ℕ) {r : ℕ} (p : Pile) {us : List Word} → pile ws n r ≡ p → Names c (reverse p.held) us → Names c (take n ws) us
 stacked c ws n p e h = listed c (ap (λ q. q.held) e) h
+
+pub stacked_in : (c : Contents) (s : Stack) {us : List Word} → Names c (reverse (pile_of s).held) us → Names c (take s.len s.words.now) us
+unfolding pile_of
+stacked_in c s h = stacked c s.words.now s.len (pile_of s) refl h
 
 pub entries_stacked : (c : Contents) {ns ms : List ℕ} {es : TySubst} → reverse ms ≡ ns → TyEntries c (reverse ns) es → TyEntries c ms es
 entries_stacked c {ms = ms} e h = rw (← e, reverse-reverse ms) at h

@@ -4,6 +4,7 @@ ghost use Rattle.std.proofs.Math.Option.{some};
 ghost use Rattle.hol.specs.Syntax.{Tm, w_fun};
 ghost use Rattle.hol.specs.Theory.{Theory, type_of};
 ghost use Rattle.store.specs.Measures.{nodes_tm};
+ghost use Rattle.lent.specs.Piles.{pile_of};
 ghost use Rattle.lent.specs.Answers.{Answers};
 ghost use Rattle.typing.specs.Built.{types_built};
 ghost use Rattle.typing.specs.Machine.{Point, At, Moved, Stuck, Cramped, widest};
@@ -33,10 +34,10 @@ fn down<S: Store, T: Signature<S>>(
     t: u64,
 ) -> Result<Option<Turn>, NoRoom>
     requires theory { (th : Theory) × (T.Signature.meaning theory.now).knows (S.Store.state store.old).contents th }
-    requires at { (x : Point) × At (S.Store.state store.old).contents f.old.held scope.old.held (Some (Turn.Down t)) x }
-    ensures stack { f.new.capacity ≡ f.old.capacity }
-    ensures scope { scope.new.capacity ≡ scope.old.capacity }
-    ensures moves { (th : Theory) (x : Point) → (T.Signature.meaning theory.now).knows (S.Store.state store.old).contents th → At (S.Store.state store.old).contents f.old.held scope.old.held (Some (Turn.Down t)) x → Answers (Stuck th f.old.capacity (length scratch.old) scope.old.capacity (S.Store.state store.old) x) (Moved th (S.Store.state store.old) (S.Store.state store.new) f.new.held scope.new.held x) result }
+    requires at { (x : Point) × At (S.Store.state store.old).contents (pile_of f.old).held (pile_of scope.old).held (Some (Turn.Down t)) x }
+    ensures stack { (pile_of f.new).capacity ≡ (pile_of f.old).capacity }
+    ensures scope { (pile_of scope.new).capacity ≡ (pile_of scope.old).capacity }
+    ensures moves { (th : Theory) (x : Point) → (T.Signature.meaning theory.now).knows (S.Store.state store.old).contents th → At (S.Store.state store.old).contents (pile_of f.old).held (pile_of scope.old).held (Some (Turn.Down t)) x → Answers (Stuck th (pile_of f.old).capacity (length scratch.old) (pile_of scope.old).capacity (S.Store.state store.old) x) (Moved th (S.Store.state store.old) (S.Store.state store.new) (pile_of f.new).held (pile_of scope.new).held x) result }
 {
     match term_at(store, t) {
         TermView::Free(_, a) => {
@@ -73,10 +74,10 @@ fn up<S: Store>(
     n: u64,
 ) -> Result<Option<Turn>, NoRoom>
     requires name { (S.state store.old).contents.word fun_name ≡ some w_fun }
-    requires at { (x : Point) × At (S.state store.old).contents f.old.held scope.old.held (Some (Turn.Up n)) x }
-    ensures stack { f.new.capacity ≡ f.old.capacity }
-    ensures scope { scope.new.capacity ≡ scope.old.capacity }
-    ensures moves { (th : Theory) (x : Point) (scratch : ℕ) → At (S.state store.old).contents f.old.held scope.old.held (Some (Turn.Up n)) x → Answers (Stuck th f.old.capacity scratch scope.old.capacity (S.state store.old) x) (Moved th (S.state store.old) (S.state store.new) f.new.held scope.new.held x) result }
+    requires at { (x : Point) × At (S.state store.old).contents (pile_of f.old).held (pile_of scope.old).held (Some (Turn.Up n)) x }
+    ensures stack { (pile_of f.new).capacity ≡ (pile_of f.old).capacity }
+    ensures scope { (pile_of scope.new).capacity ≡ (pile_of scope.old).capacity }
+    ensures moves { (th : Theory) (x : Point) (scratch : ℕ) → At (S.state store.old).contents (pile_of f.old).held (pile_of scope.old).held (Some (Turn.Up n)) x → Answers (Stuck th (pile_of f.old).capacity scratch (pile_of scope.old).capacity (S.state store.old) x) (Moved th (S.state store.old) (S.state store.new) (pile_of f.new).held (pile_of scope.new).held x) result }
 {
     let Some((k, kept)) = f.pop_pair() else {
         return Ok(Some(Turn::End(n)));

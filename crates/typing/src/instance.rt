@@ -5,6 +5,7 @@ ghost use Rattle.hol.specs.Base.{Word};
 ghost use Rattle.hol.specs.Syntax.{Ty, Tys, count_tys, zip};
 ghost use Rattle.hol.specs.Theory.{Theory, const_at};
 ghost use Rattle.store.specs.Measures.{nodes_ty, nodes_tys};
+ghost use Rattle.lent.specs.Piles.{pile_of};
 ghost use Rattle.lent.specs.Answers.{Answers};
 ghost use Rattle.walk.specs.Standing.{Names};
 ghost use Rattle.rebuild_types.specs.Entries.{TyEntries};
@@ -28,10 +29,10 @@ fn pair<S: Store>(
     entries: &mut Stack<'_>,
     list: u64,
 ) -> Result<(), NoRoom>
-    requires empty { entries.old.held ≡ [] }
+    requires empty { (pile_of entries.old).held ≡ [] }
     requires names { (ws : List Word) × Names (S.state store.now).contents names.now ws }
     requires types { (bs : Tys) × ((S.state store.now).contents.types list ≡ some bs) × (count_tys bs ≡ length names.now) }
-    ensures { (ws : List Word) (bs : Tys) → Names (S.state store.now).contents names.now ws → (S.state store.now).contents.types list ≡ some bs → count_tys bs ≡ length names.now → Answers (entries.old.capacity < 2 * length names.now) (λ _. TyEntries (S.state store.now).contents (reverse entries.new.held) (zip ws bs)) result }
+    ensures { (ws : List Word) (bs : Tys) → Names (S.state store.now).contents names.now ws → (S.state store.now).contents.types list ≡ some bs → count_tys bs ≡ length names.now → Answers ((pile_of entries.old).capacity < 2 * length names.now) (λ _. TyEntries (S.state store.now).contents (reverse (pile_of entries.new).held) (zip ws bs)) result }
 {
     let mut rest = list;
     for name in names {
@@ -61,11 +62,14 @@ fn instance<S: Store>(
 {
     let mut gathered = Stack::new(scratch);
     tyvars_type(store, words, &mut gathered, a)?;
-    let count = gathered.len;
+    let Stack {
+        words: gathered,
+        len: count,
+    } = gathered;
     if !has_count(store, list, count as u64) {
         return Ok(None);
     }
-    let (names, free) = gathered.words.split_at_mut(count);
+    let (names, free) = gathered.split_at_mut(count);
     let mut entries = Stack::new(free);
     pair(store, names, &mut entries, list)?;
     Ok(Some(subst_type(store, words, entries.as_slice(), a)?))

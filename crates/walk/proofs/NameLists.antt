@@ -7,7 +7,6 @@ use Rattle.hol.specs.Syntax.{insert}
 use Rattle.store.specs.State.{Contents, Keeps}
 use Rattle.lent.specs.Piles.{Pile, spare, Pushes}
 use Rattle.lent.specs.declared.NoRoom.{NoRoom}
-use Rattle.lent.proofs.Words.{same_none}
 use Rattle.walk.specs.Standing.{done, more, Names}
 use Rattle.walk.specs.TypeVars.{Adds, Gathers}
 use Rattle.walk.proofs.Pending.{stand_append, stand_kept}
@@ -86,4 +85,4 @@ pub put_all : {c d : Contents} → Keeps c d → (w : Word) {ws : List Word} (p 
     → c.word v ≡ some w → among w ws ≡ false → (r : Result (Unit {0}) NoRoom) → Pushes (v ∷ []) p q r
     → Gathers (spare p < 1) d (insert w ws) p q r
 put_all k w p q h v e f (Ok x) b = put_new k w p.held h v e f b.0
-put_all k w p q h v e f (Err x) b = (rw b.0 same_none, omega (arith, b.1))
+put_all k w p q h v e f (Err x) b = (b.0, omega (arith, b.1))

@@ -5,7 +5,7 @@ use Rattle.hol.specs.Syntax.{Tm, fvar, bvar, const, app, lam, tyvars_ty, tyvars_
 use Rattle.store.specs.Measures.{nodes_ty, nodes_tys}
 use Rattle.store.specs.State.{Contents}
 use Rattle.lent.specs.Answers.{Answers}
-use Rattle.lent.specs.Piles.{Pile, Same}
+use Rattle.lent.specs.Piles.{Pile}
 use Rattle.lent.specs.declared.NoRoom.{NoRoom}
 use Rattle.walk.specs.Standing.{Names}
 
@@ -16,9 +16,9 @@ pub record Adds (p q : Pile) : Type 0 where
   pub capacity : q.capacity ≡ p.capacity
   pub name : q.name ≡ p.name
 
--- what is on q stands for the names ws, the first lowest; or there is no answer, since room was short, and the same is on q as on p
+-- what is on q stands for the names ws, the first lowest; or there is no answer, since room was short, and q is p
 abbrev pub Gathers : {X : Type 0} → Type 0 → Contents → List Word → Pile → Pile → Result X NoRoom → Type 0
-Gathers short c ws p q r = Answers (Same p q × short) (λ _. Names c (reverse q.held) ws) r
+Gathers short c ws p q r = Answers ((q ≡ p) × short) (λ _. Names c (reverse q.held) ws) r
 
 -- what is short: words of the stack, or places for names
 abbrev pub Short : ℕ → ℕ → ℕ → Type 0

@@ -2,7 +2,7 @@
 ghost use Rattle.std.specs.Prelude.{◌≡◌};
 ghost use Rattle.std.proofs.Math.Option.{some};
 ghost use Rattle.hol.specs.Syntax.{Tys};
-ghost use Rattle.lent.specs.Piles.{Pushes};
+ghost use Rattle.lent.specs.Piles.{pile_of, Pushes};
 ghost use Rattle.walk.specs.Firsts.{FirstSays, behind};
 
 use crate::look::{type_at, types_at};
@@ -24,7 +24,8 @@ pub fn first_type<S: Store>(store: &S, list: u64) -> Option<(TypeView, u64)>
 
 // The arguments of the first type, newest, and the rest of the list.
 pub fn push_behind(pending: &mut Stack<'_>, first: TypeView, rest: u64) -> Result<(), NoRoom>
-    ensures { Pushes (behind first rest) pending.old pending.new result }
+    ensures cases { Pushes (behind first rest) (pile_of pending.old) (pile_of pending.new) result }
+    ensures words_name { pending.new.words.ghost_name ≡ pending.old.words.ghost_name }
 {
     match first {
         TypeView::Variable(_) => pending.push(rest),

@@ -4,7 +4,7 @@ ghost use Rattle.std.proofs.Math.Option.{some};
 ghost use Rattle.hol.specs.Base.{Word, among};
 ghost use Rattle.hol.specs.Syntax.{insert};
 ghost use Rattle.store.specs.State.{Stays};
-ghost use Rattle.lent.specs.Piles.{spare};
+ghost use Rattle.lent.specs.Piles.{pile_of, spare};
 ghost use Rattle.walk.specs.Standing.{Names};
 ghost use Rattle.walk.specs.TypeVars.{Adds, Gathers};
 
@@ -28,8 +28,9 @@ pub fn among<S: Store>(store: &mut S, name: u64, names: &[u64]) -> bool
 // Puts a name on top of the others, unless it is one of them.
 pub fn insert<S: Store>(store: &mut S, names: &mut Stack<'_>, name: u64) -> Result<(), NoRoom>
     ensures stays { Stays (S.state store.old) (S.state store.new) }
-    ensures adds { Adds names.old names.new }
-    ensures cases { (w : Word) (ws : List Word) → (S.state store.old).contents.word name ≡ some w → Names (S.state store.old).contents (reverse names.old.held) ws → Gathers (spare names.old < 1) (S.state store.new).contents (insert w ws) names.old names.new result }
+    ensures adds { Adds (pile_of names.old) (pile_of names.new) }
+    ensures words_name { names.new.words.ghost_name ≡ names.old.words.ghost_name }
+    ensures cases { (w : Word) (ws : List Word) → (S.state store.old).contents.word name ≡ some w → Names (S.state store.old).contents (reverse (pile_of names.old).held) ws → Gathers (spare (pile_of names.old) < 1) (S.state store.new).contents (insert w ws) (pile_of names.old) (pile_of names.new) result }
 {
     if among(store, name, names.as_slice()) {
         return Ok(());

@@ -1,5 +1,6 @@
 // The terms right below a term, onto a stack.
-ghost use Rattle.lent.specs.Piles.{Pushes};
+ghost use Rattle.std.specs.Prelude.{◌≡◌};
+ghost use Rattle.lent.specs.Piles.{pile_of, Pushes};
 ghost use Rattle.walk.specs.Below.{below};
 
 use lent::NoRoom;
@@ -8,7 +9,8 @@ use store::view::TermView;
 
 // The function, newest, and the argument of an application, or the body of a λ.
 pub(crate) fn push_subterms(pending: &mut Stack<'_>, view: TermView) -> Result<(), NoRoom>
-    ensures { Pushes (below view) pending.old pending.new result }
+    ensures cases { Pushes (below view) (pile_of pending.old) (pile_of pending.new) result }
+    ensures words_name { pending.new.words.ghost_name ≡ pending.old.words.ghost_name }
 {
     match view {
         TermView::Free(_, _) | TermView::Bound(_) | TermView::Constant(_, _) => Ok(()),

@@ -8,7 +8,7 @@ ghost use Rattle.store.specs.Measures.{nodes_ty, nodes_tys, nodes_tm};
 ghost use Rattle.store.specs.State.{Stays};
 ghost use Rattle.store.specs.Views.{TermSays};
 ghost use Rattle.lent.specs.Answers.{Answers};
-ghost use Rattle.lent.specs.Piles.{spare, Same};
+ghost use Rattle.lent.specs.Piles.{pile_of, spare};
 ghost use Rattle.walk.specs.Standing.{Names};
 ghost use Rattle.walk.specs.TypeVars.{Adds, Gathers, Short, own_tyvars, own_nodes};
 
@@ -28,11 +28,12 @@ fn gather_types<S: Store>(
     names: &mut Stack<'_>,
     list: u64,
 ) -> Result<(), NoRoom>
-    requires names { (ws : List Word) × Names (S.state store.old).contents (reverse names.old.held) ws }
+    requires names { (ws : List Word) × Names (S.state store.old).contents (reverse (pile_of names.old).held) ws }
     requires stands { (bs : Tys) × ((S.state store.old).contents.types list ≡ some bs) }
     ensures stays { Stays (S.state store.old) (S.state store.new) }
-    ensures adds { Adds names.old names.new }
-    ensures cases { (bs : Tys) (ws : List Word) → (S.state store.old).contents.types list ≡ some bs → Names (S.state store.old).contents (reverse names.old.held) ws → Answers (Short (length words.old) (spare names.old) (1 + nodes_tys bs)) (λ _. Names (S.state store.new).contents (reverse names.new.held) (tyvars_tys bs ws)) result }
+    ensures adds { Adds (pile_of names.old) (pile_of names.new) }
+    ensures words_name { names.new.words.ghost_name ≡ names.old.words.ghost_name }
+    ensures cases { (bs : Tys) (ws : List Word) → (S.state store.old).contents.types list ≡ some bs → Names (S.state store.old).contents (reverse (pile_of names.old).held) ws → Answers (Short (length words.old) (spare (pile_of names.old)) (1 + nodes_tys bs)) (λ _. Names (S.state store.new).contents (reverse (pile_of names.new).held) (tyvars_tys bs ws)) result }
 {
     let mut pending = Stack::new(words);
     pending.push(list)?;
@@ -55,11 +56,12 @@ pub fn tyvars_types<S: Store>(
     names: &mut Stack<'_>,
     list: u64,
 ) -> Result<(), NoRoom>
-    requires names { (ws : List Word) × Names (S.state store.old).contents (reverse names.old.held) ws }
+    requires names { (ws : List Word) × Names (S.state store.old).contents (reverse (pile_of names.old).held) ws }
     requires stands { (bs : Tys) × ((S.state store.old).contents.types list ≡ some bs) }
     ensures stays { Stays (S.state store.old) (S.state store.new) }
-    ensures adds { Adds names.old names.new }
-    ensures cases { (bs : Tys) (ws : List Word) → (S.state store.old).contents.types list ≡ some bs → Names (S.state store.old).contents (reverse names.old.held) ws → Gathers (Short (length words.old) (spare names.old) (1 + nodes_tys bs)) (S.state store.new).contents (tyvars_tys bs ws) names.old names.new result }
+    ensures adds { Adds (pile_of names.old) (pile_of names.new) }
+    ensures words_name { names.new.words.ghost_name ≡ names.old.words.ghost_name }
+    ensures cases { (bs : Tys) (ws : List Word) → (S.state store.old).contents.types list ≡ some bs → Names (S.state store.old).contents (reverse (pile_of names.old).held) ws → Gathers (Short (length words.old) (spare (pile_of names.old)) (1 + nodes_tys bs)) (S.state store.new).contents (tyvars_tys bs ws) (pile_of names.old) (pile_of names.new) result }
 {
     let start = names.len();
     let gathered = gather_types(store, words, names, list);
@@ -76,11 +78,12 @@ pub fn tyvars_type<S: Store>(
     names: &mut Stack<'_>,
     a: u64,
 ) -> Result<(), NoRoom>
-    requires names { (ws : List Word) × Names (S.state store.old).contents (reverse names.old.held) ws }
+    requires names { (ws : List Word) × Names (S.state store.old).contents (reverse (pile_of names.old).held) ws }
     requires stands { (b : Ty) × ((S.state store.old).contents.typ a ≡ some b) }
     ensures stays { Stays (S.state store.old) (S.state store.new) }
-    ensures adds { Adds names.old names.new }
-    ensures cases { (b : Ty) (ws : List Word) → (S.state store.old).contents.typ a ≡ some b → Names (S.state store.old).contents (reverse names.old.held) ws → Gathers (Short (length words.old) (spare names.old) (nodes_ty b)) (S.state store.new).contents (tyvars_ty b ws) names.old names.new result }
+    ensures adds { Adds (pile_of names.old) (pile_of names.new) }
+    ensures words_name { names.new.words.ghost_name ≡ names.old.words.ghost_name }
+    ensures cases { (b : Ty) (ws : List Word) → (S.state store.old).contents.typ a ≡ some b → Names (S.state store.old).contents (reverse (pile_of names.old).held) ws → Gathers (Short (length words.old) (spare (pile_of names.old)) (nodes_ty b)) (S.state store.new).contents (tyvars_ty b ws) (pile_of names.old) (pile_of names.new) result }
 {
     match type_at(store, a) {
         TypeView::Variable(name) => insert(store, names, name),
@@ -95,12 +98,13 @@ fn tyvars_node<S: Store>(
     names: &mut Stack<'_>,
     view: TermView,
 ) -> Result<(), NoRoom>
-    requires names { (ws : List Word) × Names (S.state store.old).contents (reverse names.old.held) ws }
+    requires names { (ws : List Word) × Names (S.state store.old).contents (reverse (pile_of names.old).held) ws }
     requires stands { (t : Tm) × TermSays (S.state store.old).contents t (Some view) }
-    ensures pending { Same pending.old pending.new }
+    ensures pending { pile_of pending.new ≡ pile_of pending.old }
     ensures stays { Stays (S.state store.old) (S.state store.new) }
-    ensures adds { Adds names.old names.new }
-    ensures cases { (t : Tm) (ws : List Word) → TermSays (S.state store.old).contents t (Some view) → Names (S.state store.old).contents (reverse names.old.held) ws → Gathers (Short (spare pending.old) (spare names.old) (own_nodes t)) (S.state store.new).contents (own_tyvars t ws) names.old names.new result }
+    ensures adds { Adds (pile_of names.old) (pile_of names.new) }
+    ensures words_name { names.new.words.ghost_name ≡ names.old.words.ghost_name }
+    ensures cases { (t : Tm) (ws : List Word) → TermSays (S.state store.old).contents t (Some view) → Names (S.state store.old).contents (reverse (pile_of names.old).held) ws → Gathers (Short (spare (pile_of pending.old)) (spare (pile_of names.old)) (own_nodes t)) (S.state store.new).contents (own_tyvars t ws) (pile_of names.old) (pile_of names.new) result }
 {
     let free = &mut pending.words[pending.len..];
     match view {
@@ -117,11 +121,12 @@ fn gather_term<S: Store>(
     names: &mut Stack<'_>,
     t: u64,
 ) -> Result<(), NoRoom>
-    requires names { (ws : List Word) × Names (S.state store.old).contents (reverse names.old.held) ws }
+    requires names { (ws : List Word) × Names (S.state store.old).contents (reverse (pile_of names.old).held) ws }
     requires stands { (u : Tm) × ((S.state store.old).contents.term t ≡ some u) }
     ensures stays { Stays (S.state store.old) (S.state store.new) }
-    ensures adds { Adds names.old names.new }
-    ensures cases { (u : Tm) (ws : List Word) → (S.state store.old).contents.term t ≡ some u → Names (S.state store.old).contents (reverse names.old.held) ws → Answers (Short (length words.old) (spare names.old) (nodes_tm u)) (λ _. Names (S.state store.new).contents (reverse names.new.held) (tyvars_tm u ws)) result }
+    ensures adds { Adds (pile_of names.old) (pile_of names.new) }
+    ensures words_name { names.new.words.ghost_name ≡ names.old.words.ghost_name }
+    ensures cases { (u : Tm) (ws : List Word) → (S.state store.old).contents.term t ≡ some u → Names (S.state store.old).contents (reverse (pile_of names.old).held) ws → Answers (Short (length words.old) (spare (pile_of names.old)) (nodes_tm u)) (λ _. Names (S.state store.new).contents (reverse (pile_of names.new).held) (tyvars_tm u ws)) result }
 {
     let mut pending = Stack::new(words);
     pending.push(t)?;
@@ -140,11 +145,12 @@ pub fn tyvars_term<S: Store>(
     names: &mut Stack<'_>,
     t: u64,
 ) -> Result<(), NoRoom>
-    requires names { (ws : List Word) × Names (S.state store.old).contents (reverse names.old.held) ws }
+    requires names { (ws : List Word) × Names (S.state store.old).contents (reverse (pile_of names.old).held) ws }
     requires stands { (u : Tm) × ((S.state store.old).contents.term t ≡ some u) }
     ensures stays { Stays (S.state store.old) (S.state store.new) }
-    ensures adds { Adds names.old names.new }
-    ensures cases { (u : Tm) (ws : List Word) → (S.state store.old).contents.term t ≡ some u → Names (S.state store.old).contents (reverse names.old.held) ws → Gathers (Short (length words.old) (spare names.old) (nodes_tm u)) (S.state store.new).contents (tyvars_tm u ws) names.old names.new result }
+    ensures adds { Adds (pile_of names.old) (pile_of names.new) }
+    ensures words_name { names.new.words.ghost_name ≡ names.old.words.ghost_name }
+    ensures cases { (u : Tm) (ws : List Word) → (S.state store.old).contents.term t ≡ some u → Names (S.state store.old).contents (reverse (pile_of names.old).held) ws → Gathers (Short (length words.old) (spare (pile_of names.old)) (nodes_tm u)) (S.state store.new).contents (tyvars_tm u ws) (pile_of names.old) (pile_of names.new) result }
 {
     let start = names.len();
     let gathered = gather_term(store, words, names, t);

@@ -13,7 +13,7 @@ pub returns-in_err-push_all-in-Some-Word-clause-moves : goal.returns-in_err-push
 returns-in_err-push_all-in-Some-Word-clause-moves g c = λ qs x at.
     let i = given_token c.in-Some-Word.ensures.steps c.in-Some-Word.field-0-is in
     refused _ c.from_residual-in_err-push_all-in-Some-Word.result c.from_residual-in_err-push_all-in-Some-Word.ensures.0
-    (inr (word_full at i c.in_err-push_all-in-Some-Word.ensures.1))
+    (inr (word_full at i c.in_err-push_all-in-Some-Word.ensures.cases.1))
 
 pub returns-in_err-name-in-Some-Open-clause-moves : goal.returns-in_err-name-in-Some-Open-clause-moves
 returns-in_err-name-in-Some-Open-clause-moves g c = λ qs x at.
@@ -31,17 +31,17 @@ returns-in_err-push_all-in-Some-Open-clause-moves g c = λ qs x at.
     let i = given_token c.in-Some-Open.ensures.steps c.in-Some-Open.field-0-is in
     let b = rw c.in-Some.is at c.in_ok-name-in-Some-Open.ensures in
     refused _ c.from_residual-in_err-push_all-in-Some-Open.result c.from_residual-in_err-push_all-in-Some-Open.ensures.0
-    (inr (bracket_full at i b.ahead c.in_err-push_all-in-Some-Open.ensures.1))
+    (inr (bracket_full at i b.ahead c.in_err-push_all-in-Some-Open.ensures.cases.1))
 
 pub returns-in_ok-push_all-in-Some-Word-clause-moves : goal.returns-in_ok-push_all-in-Some-Word-clause-moves
 returns-in_ok-push_all-in-Some-Word-clause-moves g c = λ qs x at.
     let i = given_token c.in-Some-Word.ensures.steps c.in-Some-Word.field-0-is in
-    word_read at i c.in_ok-a-in-Some-Word.ensures c.in_ok-push_all-in-Some-Word.ensures.0
+    word_read at i c.in_ok-a-in-Some-Word.ensures c.in_ok-push_all-in-Some-Word.ensures.cases.0
 
 pub returns-in_ok-push_all-in-Some-Open-clause-moves : goal.returns-in_ok-push_all-in-Some-Open-clause-moves
 returns-in_ok-push_all-in-Some-Open-clause-moves g c = λ qs x at.
     let i = given_token c.in-Some-Open.ensures.steps c.in-Some-Open.field-0-is in
-    bracket_opened at i (rw c.in-Some.is at c.in_ok-name-in-Some-Open.ensures) c.in_ok-push_all-in-Some-Open.ensures.0
+    bracket_opened at i (rw c.in-Some.is at c.in_ok-name-in-Some-Open.ensures) c.in_ok-push_all-in-Some-Open.ensures.cases.0
 
 pub returns-in-Some-Close-clause-moves : goal.returns-in-Some-Close-clause-moves
 returns-in-Some-Close-clause-moves g c = λ qs x at.

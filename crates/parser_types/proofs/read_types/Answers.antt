@@ -4,7 +4,7 @@ use Rattle.parser_types.proofs.Loop.{start, next}
 use Rattle.parser_types.proofs.read_types.Goals as goal
 
 pub loop-turn-init : goal.loop-turn-init
-loop-turn-init g c = (refl, λ us qs e. start (ap (λ p. p.held) c.new-pending.ensures) e)
+loop-turn-init g c = (refl, λ us qs e. start (ap (λ p. p.held) c.new-pending.ensures.empty) e)
 
 pub loop-turn-preserved-in-Some : goal.loop-turn-preserved-in-Some
 loop-turn-preserved-in-Some g c =

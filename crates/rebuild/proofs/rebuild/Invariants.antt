@@ -1,10 +1,11 @@
+use Rattle.lent.specs.Piles.{pile_of}
 use Rattle.rebuild.proofs.Loop.{Running, turn-moves}
 use Rattle.rebuild.proofs.rebuild.Given as goal
 
 abbrev pub invariant-loop-turn : goal.invariant-loop-turn
 invariant-loop-turn g l =
-    Running (g.L.Leaf.does l.leaf) (g.S.Store.state l.initial.store) l.t l.depth l.initial.stack (g.S.Store.state l.store) l.stack l.turn
+    Running (g.L.Leaf.does l.leaf) (g.S.Store.state l.initial.store) l.t l.depth (pile_of l.initial.stack) (g.S.Store.state l.store) (pile_of l.stack) l.turn
 
 -- the moves to come
 abbrev pub decreases-loop-turn : goal.decreases-loop-turn
-decreases-loop-turn g l = turn-moves (g.S.Store.state l.store).contents l.stack.held l.turn
+decreases-loop-turn g l = turn-moves (g.S.Store.state l.store).contents (pile_of l.stack).held l.turn

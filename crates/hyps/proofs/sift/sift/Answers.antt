@@ -7,7 +7,7 @@ use Rattle.hyps.proofs.sift.sift.Goals as goal
 pub returns-in_err-spread : goal.returns-in_err-spread
 returns-in_err-spread g c p us vs h e d =
     let w = err_from_is_err_and c.from_residual.result c.from_residual.ensures.1 in
-    let room = ap (λ o. o.capacity) c.new-stack.ensures in
+    let room = ap (λ o. o.capacity) c.new-stack.ensures.empty in
     rw w.1 (inl (let k = c.in_err-spread.ensures.cases us e in let l = length-nodes us in omega arith))
 
 pub returns : goal.returns

@@ -17,7 +17,7 @@ terms_at-requires g c =
 pub returns-in_err-push : goal.returns-in_err-push
 returns-in_err-push g c =
     let (same, at) = c.loop-h.invariant in
-    let q = c.in_err-push.ensures in
+    let q = c.in_err-push.ensures.cases in
     record {
       capacity = rw (q.0, same) refl;
       cases = λ us e.
@@ -35,7 +35,7 @@ loop-h-smaller g c =
 pub loop-h-preserved : goal.loop-h-preserved
 loop-h-preserved g c =
     let (same, at) = c.loop-h.invariant in
-    let q = c.in_ok-push.ensures in
+    let q = c.in_ok-push.ensures.cases in
     (q.1 ∙ same, λ us e. let k = at us e in next k (c.in-Cons.ensures k.ahead k.ahead_is) q.0)
 
 pub returns : goal.returns

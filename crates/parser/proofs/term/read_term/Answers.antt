@@ -6,8 +6,8 @@ use Rattle.parser.proofs.term.read_term.Goals as goal
 
 pub loop-turn-init : goal.loop-turn-init
 loop-turn-init g c =
-    let h = ap (λ p. p.held) c.new-pending.ensures in
-    let z = ap (λ p. p.held) c.new-names.ensures in
+    let h = ap (λ p. p.held) c.new-pending.ensures.empty in
+    let z = ap (λ p. p.held) c.new-names.ensures.empty in
     (refl, refl, λ n u qs e d. start u h z e d, λ qs e. start_lost e)
 
 pub loop-turn-preserved-in_ok-turn-in-Down : goal.loop-turn-preserved-in_ok-turn-in-Down
@@ -64,13 +64,13 @@ pub returns-in_err-turn-in-Down-clause-cases : goal.returns-in_err-turn-in-Down-
 returns-in_err-turn-in-Down-clause-cases g c = λ n u qs e d.
     let w = rw (c.in-Some.is, c.in-Down.is) at (c.loop-turn.invariant.2 n u qs e d) in
     refused _ c.from_residual.result c.from_residual.ensures.0
-    (rw (c.loop-turn.invariant.0, c.loop-turn.invariant.1, c.new-pending.ensures, c.new-names.ensures) at (stuck w (c.in_err-turn-in-Down.ensures.moves qs w.point w.at)))
+    (rw (c.loop-turn.invariant.0, c.loop-turn.invariant.1, c.new-pending.ensures.empty, c.new-names.ensures.empty) at (stuck w (c.in_err-turn-in-Down.ensures.moves qs w.point w.at)))
 
 pub returns-in_err-turn-in-Up-clause-cases : goal.returns-in_err-turn-in-Up-clause-cases
 returns-in_err-turn-in-Up-clause-cases g c = λ n u qs e d.
     let w = rw (c.in-Some.is, c.in-Up.is) at (c.loop-turn.invariant.2 n u qs e d) in
     refused _ c.from_residual-in_err-turn-in-Up.result c.from_residual-in_err-turn-in-Up.ensures.0
-    (rw (c.loop-turn.invariant.0, c.loop-turn.invariant.1, c.new-pending.ensures, c.new-names.ensures) at (stuck w (c.in_err-turn-in-Up.ensures.moves qs w.point w.at)))
+    (rw (c.loop-turn.invariant.0, c.loop-turn.invariant.1, c.new-pending.ensures.empty, c.new-names.ensures.empty) at (stuck w (c.in_err-turn-in-Up.ensures.moves qs w.point w.at)))
 
 pub returns-in-End-clause-cases : goal.returns-in-End-clause-cases
 returns-in-End-clause-cases g c = λ n u qs e d.

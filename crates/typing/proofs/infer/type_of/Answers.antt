@@ -5,8 +5,8 @@ use Rattle.typing.proofs.infer.type_of.Goals as goal
 
 pub loop-turn-init : goal.loop-turn-init
 loop-turn-init g c =
-    let f = c.new-f.ensures in
-    let a = c.new-around.ensures in (
+    let f = c.new-f.ensures.empty in
+    let a = c.new-around.ensures.empty in (
       ap (λ p. p.capacity) f,
       ap (λ p. p.capacity) a,
       λ th u k h. set_out th (g.S.Store.state c.args.store.now) u (ap (λ p. p.held) f) (ap (λ p. p.held) a) h,

@@ -20,12 +20,12 @@ pub returns-in_err-push_all-in-Cons : goal.returns-in_err-push_all-in-Cons
 returns-in_err-push_all-in-Cons g c ws bs h e q =
     let p = c.loop-name.invariant.1 ws bs h e q in
     refused _ c.from_residual.result c.from_residual.ensures.0
-    (omega (arith, p.long, c.loop-name-test.true, c.in_err-push_all-in-Cons.ensures.1, c.loop-name.invariant.0))
+    (omega (arith, p.long, c.loop-name-test.true, c.in_err-push_all-in-Cons.ensures.cases.1, c.loop-name.invariant.0))
 
 pub loop-name-preserved : goal.loop-name-preserved
 loop-name-preserved g c = (
-  c.in_ok-push_all-in-Cons.ensures.1 ∙ c.loop-name.invariant.0,
-  λ ws bs h e q. next (c.loop-name.invariant.1 ws bs h e q) c.loop-name-test.true c.in-Cons.ensures c.in_ok-push_all-in-Cons.ensures.0,
+  c.in_ok-push_all-in-Cons.ensures.cases.1 ∙ c.loop-name.invariant.0,
+  λ ws bs h e q. next (c.loop-name.invariant.1 ws bs h e q) c.loop-name-test.true c.in-Cons.ensures c.in_ok-push_all-in-Cons.ensures.cases.0,
 )
 
 pub returns : goal.returns

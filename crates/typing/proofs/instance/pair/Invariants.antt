@@ -1,3 +1,4 @@
+use Rattle.lent.specs.Piles.{pile_of}
 use Rattle.std.proofs.Common.{◌≡◌, List, length}
 use mathlib.Core.Option.{some}
 use Rattle.hol.specs.Base.{Word}
@@ -8,6 +9,6 @@ use Rattle.typing.proofs.instance.pair.Given as goal
 
 abbrev pub invariant-loop-name : goal.invariant-loop-name
 invariant-loop-name g l =
-    (l.entries.capacity ≡ l.initial.entries.capacity)
+    ((pile_of l.entries).capacity ≡ (pile_of l.initial.entries).capacity)
     × ((ws : List Word) (bs : Tys) → Names (g.S.Store.state l.store).contents l.names ws → (g.S.Store.state l.store).contents.types l.list ≡ some bs → count_tys bs ≡ length l.names
-    → Pairing (g.S.Store.state l.store).contents l.names ws bs l.name-index l.rest l.entries.held)
+    → Pairing (g.S.Store.state l.store).contents l.names ws bs l.name-index l.rest (pile_of l.entries).held)

@@ -1,3 +1,4 @@
+use Rattle.lent.specs.Piles.{pile_of}
 use Rattle.std.proofs.Common.{◌≡◌, ◌+◌, List, length, reverse}
 use mathlib.Core.Option.{some}
 use Rattle.hol.specs.Base.{Word}
@@ -13,12 +14,12 @@ use Rattle.walk.proofs.tyvars.gather_term.Given as goal
 -- the names gathered so far and the terms still to come give what is wanted
 abbrev pub invariant-loop-next : goal.invariant-loop-next
 invariant-loop-next g l =
-    (l.pending.capacity ≡ length l.fn.words) × Stays (g.S.Store.state l.initial.store) (g.S.Store.state l.store)
-    × Adds l.initial.names l.names
+    ((pile_of l.pending).capacity ≡ length l.fn.words) × Stays (g.S.Store.state l.initial.store) (g.S.Store.state l.store)
+    × Adds (pile_of l.initial.names) (pile_of l.names)
     × ((u : Tm) (ws : List Word) → (g.S.Store.state l.initial.store).contents.term l.t ≡ some u
-    → Names (g.S.Store.state l.initial.store).contents (reverse l.initial.names.held) ws
+    → Names (g.S.Store.state l.initial.store).contents (reverse (pile_of l.initial.names).held) ws
     → Gathering (g.S.Store.state l.store).contents (g.S.Store.state l.store).contents.term tyvars_tm nodes_tm
-    (tyvars_tm u ws) (length l.initial.names.held + nodes_tm u) l.pending.held l.names.held)
+    (tyvars_tm u ws) (length (pile_of l.initial.names).held + nodes_tm u) (pile_of l.pending).held (pile_of l.names).held)
 
 abbrev pub decreases-loop-next : goal.decreases-loop-next
-decreases-loop-next g l = load (g.S.Store.state l.store).contents.term nodes_tm l.pending.held
+decreases-loop-next g l = load (g.S.Store.state l.store).contents.term nodes_tm (pile_of l.pending).held

@@ -1,15 +1,12 @@
 use Rattle.std.proofs.Common.{◌≡◌, arith, refl, length, ap, ◌+◌, ◌-◌}
-use Rattle.lent.proofs.Words.{pushed, pile-length}
+use Rattle.lent.specs.Piles.{pile_of}
+use Rattle.lent.proofs.Words.{pushed}
 use Rattle.lent.proofs.stack.Stack.push_all.Goals as goal
 
-pub returns-then-words-self : goal.returns-then-words-self
-returns-then-words-self c =
-    let l = pile-length c.self.inside.words.now c.self.inside.len c.self.invariant in
-    rw (← c.self.view_is) (refl, omega (arith, l, c.if-words-self.true))
-
-pub returns : goal.returns
-returns c =
-    let e : c.self.inside.len + length c.args.words.now - c.self.inside.len ≡ length c.args.words.now = omega arith in
-    let l = c.self.invariant in
-    let p = pushed c.self.inside.words.now c.args.words.now c.self.inside.len _ c.self.inside.words.ghost_name c.self.invariant refl (omega (arith, l, c.if-words-self.false)) in
-    rw (e, c.copy_from_slice.ensures.after, ← c.self.view_is) (ap (λ o. o.held) p, ap (λ o. o.capacity) p, refl)
+pub returns-clause-cases : goal.returns-clause-cases
+unfolding pile_of
+returns-clause-cases c =
+    let s = c.args.self.now in
+    let e : s.len + length c.args.words.now - s.len ≡ length c.args.words.now = omega arith in
+    let p = pushed s.words.now c.args.words.now s.len _ s.words.ghost_name s.fits refl (omega (arith, s.fits, c.if-words-self.false)) in
+    rw (e, c.copy_from_slice.ensures.after) (ap (λ o. o.held) p, ap (λ o. o.capacity) p, refl)
