@@ -17,6 +17,10 @@ pile ws n r = record { held = reverse (take n ws); capacity = length ws; name = 
 unfoldable pub pile_of : Stack → Pile
 pile_of s = pile s.words.now s.len s.words.ghost_name
 
+-- the words of a stack that are free
+abbrev pub free_words : Stack → List ℕ
+free_words s = drop s.len s.words.now
+
 -- how many more words it can hold
 abbrev pub spare : Pile → ℕ
 spare p = p.capacity - length p.held

@@ -7,7 +7,7 @@ mod methods;
 // words; its drop gives them back, with what was written.
 //
 // A function that needs words takes a slice of them and makes a stack in it. Whoever has a stack `s` calls such a function above it with
-// the words that are free, `&mut s.words[s.len..]`, and what is on `s` stays.
+// the words that are free, `s.above(|free| f(free))`, or, behind a `&mut Stack`, `f(&mut s.words[s.len..])`; and what is on `s` stays.
 #[derive(Drop)]
 pub struct Stack<'w> {
     pub words: &'w mut [u64],

@@ -36,27 +36,20 @@ fn newest_first(rt: HostRuntime) {
     assert_eq!(rt; s.pop(), None);
 }
 
-// What a stack in these words takes above it, up to 100 and up to 2, and what is on it then.
-fn stacked(words: &mut [u64]) -> (u64, u64, Option<u64>, Option<u64>) {
-    let mut s = Stack::new(words);
-    let _ = s.push(5);
-    let _ = s.push(6);
-    let all = fill_above(&mut s, 100);
-    let two = fill_above(&mut s, 2);
-    (all, two, s.pop(), s.pop())
-}
-
-// The same above a stack.
-fn stacked_above(s: &mut Stack<'_>) -> (u64, u64, Option<u64>, Option<u64>) {
-    stacked(&mut s.words[s.len..])
-}
-
 #[test]
 fn nested(rt: HostRuntime) {
     let mut words = [0; 6];
     let mut below = Stack::new(&mut words);
     assert!(rt; below.push(4).is_ok());
-    assert_eq!(rt; stacked_above(&mut below), (3, 2, Some(6), Some(5)));
+    below.above(|free| {
+        let mut s = Stack::new(free);
+        assert!(rt; s.push(5).is_ok());
+        assert!(rt; s.push(6).is_ok());
+        assert_eq!(rt; fill_above(&mut s, 100), 3);
+        assert_eq!(rt; fill_above(&mut s, 2), 2);
+        assert_eq!(rt; s.pop(), Some(6));
+        assert_eq!(rt; s.pop(), Some(5));
+    });
     assert_eq!(rt; below.len(), 1);
     assert_eq!(rt; below.pop(), Some(4));
 }
@@ -77,6 +70,18 @@ fn put(words: &mut [u64], word: u64)
     let _ = s.push(word);
 }
 
+// A word on a stack and one above it are both in the words.
+#[tactic(auto, unfolding(crate::specs::Piles::pile_of))]
+fn put_both(words: &mut [u64], on: u64, above: u64)
+    requires { 1 < length words.old }
+    ensures on { slice_index words.new 0 ≡ on }
+    ensures above { slice_index words.new 1 ≡ above }
+{
+    let mut s = Stack::new(words);
+    let _ = s.push(on);
+    s.above(|free| free[0] = above);
+}
+
 #[test]
 fn given_back(rt: HostRuntime) {
     let mut words = [1, 2, 3];
@@ -84,4 +89,6 @@ fn given_back(rt: HostRuntime) {
     assert_eq!(rt; words, [1, 2, 3]);
     put(&mut words, 7);
     assert_eq!(rt; words, [7, 2, 3]);
+    put_both(&mut words, 8, 9);
+    assert_eq!(rt; words, [8, 9, 3]);
 }

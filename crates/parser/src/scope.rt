@@ -1,8 +1,8 @@
-ghost use Rattle.lent.specs.Piles.{pile_of};
 // The λs around, by the names of their variables.
 ghost use Rattle.std.specs.Prelude.{◌≡◌, List};
 ghost use Rattle.hol.specs.Base.{Word};
 ghost use Rattle.hol.specs.Text.{index_of};
+ghost use Rattle.lent.specs.Piles.{pile_of};
 ghost use Rattle.parser.specs.Scope.{Names, Places};
 
 use lent::stack::Stack;

@@ -1,7 +1,7 @@
-ghost use Rattle.lent.specs.Piles.{pile_of};
 // The loop that reads a term.
 ghost use Rattle.std.specs.Prelude.{◌≡◌, ℕ, Some, ◌≤◌, ◌⊎◌, List, [], ◌∷◌, ◌++◌, length};
 ghost use Rattle.hol.specs.Text.{Token as Sign, closes, Sexp, read_term};
+ghost use Rattle.lent.specs.Piles.{pile_of};
 ghost use Rattle.reader.specs.Flat.{flat, cost, depth};
 ghost use Rattle.reader.specs.Next.{stream};
 ghost use Rattle.parser_types.specs.Reads.{Absent};

@@ -1,5 +1,5 @@
 // The tokens of a text one after another, from left to right: brackets and words.
-ghost use Rattle.std.specs.Prelude.{◌≡◌, length};
+ghost use Rattle.std.specs.Prelude.{◌≡◌, length, take, drop};
 ghost use Rattle.std.specs.Iterator.{at_most};
 ghost use Rattle.std.specs.List.{prefix_len};
 ghost use Rattle.hol.specs.Text.{in_words};
@@ -40,6 +40,14 @@ fn word_length(text: &[u8]) -> usize
     text.iter()
         .take_while(|byte| matches!(Kind::from(**byte), Kind::Letter))
         .count()
+}
+
+// The word that the text begins with, and what is behind it.
+fn first_word(text: &[u8]) -> (&[u8], &[u8])
+    ensures word { result.0.now ≡ take (prefix_len in_words text.now) text.now }
+    ensures behind { result.1.now ≡ drop (prefix_len in_words text.now) text.now }
+{
+    text.split_at(word_length(text))
 }
 
 // What is behind the blanks and comments that the text begins with.
@@ -90,7 +98,7 @@ impl<'a> Iterator for Tokens<'a> {
             Kind::Opening => (Token::Open, behind),
             Kind::Closing => (Token::Close, behind),
             _ => {
-                let (word, behind) = text.split_at(word_length(text));
+                let (word, behind) = first_word(text);
                 (Token::Word(word), behind)
             }
         };

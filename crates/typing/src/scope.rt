@@ -1,7 +1,7 @@
-ghost use Rattle.lent.specs.Piles.{pile_of};
 // The types of the λs around a term, the innermost newest.
 ghost use Rattle.std.specs.Prelude.{◌≡◌};
 ghost use Rattle.hol.specs.Base.{nth};
+ghost use Rattle.lent.specs.Piles.{pile_of};
 ghost use Rattle.signature.specs.Finds.{Finds};
 
 use lent::stack::Stack;

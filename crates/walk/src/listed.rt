@@ -25,6 +25,15 @@ pub fn among<S: Store>(store: &mut S, name: u64, names: &[u64]) -> bool
     false
 }
 
+// Whether a name is one of those on the stack.
+#[tactic(auto, using(crate::proofs::NameLists::listed))]
+fn among_held<S: Store>(store: &mut S, name: u64, names: &Stack<'_>) -> bool
+    ensures stays { Stays (S.state store.old) (S.state store.new) }
+    ensures found { (w : Word) (ws : List Word) → (S.state store.old).contents.word name ≡ some w → Names (S.state store.old).contents (reverse (pile_of names.now).held) ws → result ≡ among w ws }
+{
+    among(store, name, names.as_slice())
+}
+
 // Puts a name on top of the others, unless it is one of them.
 pub fn insert<S: Store>(store: &mut S, names: &mut Stack<'_>, name: u64) -> Result<(), NoRoom>
     ensures stays { Stays (S.state store.old) (S.state store.new) }
@@ -32,7 +41,7 @@ pub fn insert<S: Store>(store: &mut S, names: &mut Stack<'_>, name: u64) -> Resu
     ensures words_name { names.new.words.ghost_name ≡ names.old.words.ghost_name }
     ensures cases { (w : Word) (ws : List Word) → (S.state store.old).contents.word name ≡ some w → Names (S.state store.old).contents (reverse (pile_of names.old).held) ws → Gathers (spare (pile_of names.old) < 1) (S.state store.new).contents (insert w ws) (pile_of names.old) (pile_of names.new) result }
 {
-    if among(store, name, names.as_slice()) {
+    if among_held(store, name, names) {
         return Ok(());
     }
     names.push(name)

@@ -1,6 +1,7 @@
 // What a stack does.
 ghost use Rattle.std.specs.Prelude.{◌≡◌, [], ◌∷◌, length, reverse};
-ghost use Rattle.lent.specs.Piles.{pile_of, cut, Pushes, Pops, PopsPair};
+ghost use Rattle.std.specs.Fn.{FnOnceTakesAtMut, FnOnceReturnsAtMut};
+ghost use Rattle.lent.specs.Piles.{pile_of, free_words, cut, Pushes, Pops, PopsPair};
 
 use super::Stack;
 use crate::NoRoom;
@@ -98,5 +99,16 @@ impl Stack<'_> {
         if n < self.len {
             self.len = n;
         }
+    }
+
+    // What `f` answers of the words that are free; what is on the stack stays.
+    #[tactic(auto, unfolding(crate::specs::Piles::pile_of))]
+    pub fn above<R, F: FnOnce(&mut [u64]) -> R>(&mut self, f: F) -> R
+        requires { FnOnceTakesAtMut F.FnOnce f (free_words self.old) }
+        ensures cases { pile_of self.new ≡ pile_of self.old }
+        ensures called { FnOnceReturnsAtMut F.FnOnce f (free_words self.old) result (free_words self.new) }
+        ensures words_name { self.new.words.ghost_name ≡ self.old.words.ghost_name }
+    {
+        f(&mut self.words[self.len..])
     }
 }

@@ -1,13 +1,8 @@
 -- The token that begins with the first byte that skip leaves.
 use Rattle.std.proofs.Common.{sym, refl, ◌∙◌}
-use Rattle.std.proofs.lemmas.List.Sums.{prefix_len-le-length}
-use Rattle.hol.specs.Text.{in_words}
 use Rattle.reader.proofs.Given.{gives_open, gives_close, gives_word}
 use Rattle.reader.proofs.tokens.TokensIterator.next.Goals as goal
 use Rattle.reader.proofs.tokens.TokensIterator.next.Goals.{in-Opening, in-Closing, in_default-from}
-
-pub split_at-requires : goal.split_at-requires
-split_at-requires c = rw c.word_length.ensures (prefix_len-le-length in_words c.skip-text.result.now)
 
 pub returns-clause-steps : goal.returns-clause-steps
 returns-clause-steps c =
@@ -18,8 +13,8 @@ returns-clause-steps c =
       | in-Opening w ↦ rw w.t-18-is (gives_open c.args.self.now t to h _ (sym c.from.ensures ∙ w.in-Opening.is) refl)
       | in-Closing w ↦ rw w.t-18-is (gives_close c.args.self.now t to h _ (sym c.from.ensures ∙ w.in-Closing.is) refl)
       | in_default-from w ↦
-          let n = w.word_length.ensures in
+          let n = w.first_word.ensures in
           rw w.t-18-is
-          (gives_word c.args.self.now t to h _ _ (rw n at w.split_at.ensures.front) (rw n at w.split_at.ensures.back)
+          (gives_word c.args.self.now t to h _ _ n.word n.behind
           (λ e. w.in_default-from.not-Opening (c.from.ensures ∙ e)) (λ e. w.in_default-from.not-Closing (c.from.ensures ∙ e)))
     ]
