@@ -4,7 +4,7 @@ use Rattle.std.proofs.lemmas.List.{append_assoc, reverse-append, length-reverse,
 use Rattle.std.proofs.lemmas.Slice.{take-put_mid, take-put_mid_below}
 use Rattle.std.proofs.Math.Seq.{drop-append_seam}
 use borrow.Rule.Slice.PartMut.{put_mid, mid_of, same_len_mid}
-use Rattle.lent.specs.Piles.{Pile, pile, pile_of, spare, cut, onto}
+use Rattle.lent.specs.Piles.{Pile, pile, pile_of, free_words, spare, cut, onto}
 use Rattle.lent.specs.declared.stack.Stack.{Stack}
 
 onto-reverse : (ws h : List ℕ) → onto ws h ≡ reverse ws ++ h
@@ -64,6 +64,10 @@ module _ (s : Stack) where
   pub stack-spare : length (take (length s.words.now - s.len) (drop s.len s.words.now)) ≡ spare (pile_of s)
   unfolding pile_of
   stack-spare = pile-spare s.words.now s.len (pile_of s) s.fits refl
+
+  pub free_length : length (free_words s) ≡ spare (pile_of s)
+  unfolding pile_of
+  free_length = rw (length-drop s.len s.words.now, pile-length s.words.now s.len s.fits) refl
 
   pub whole : length s.words.now ≡ (pile_of s).capacity
   unfolding pile_of

@@ -7,7 +7,8 @@ mod methods;
 // words; its drop gives them back, with what was written.
 //
 // A function that needs words takes a slice of them and makes a stack in it. Whoever has a stack `s` calls such a function above it with
-// the words that are free, `s.above(|free| f(free))`, or, behind a `&mut Stack`, `f(&mut s.words[s.len..])`; and what is on `s` stays.
+// the words that are free, and what is on `s` stays: `f(&mut s.words[s.len..])` behind a `&mut Stack`, and of a stack by value, whose
+// part can't be lent so, `s.above(&mut |free: &mut [u64]| f(free))`.
 #[derive(Drop)]
 pub struct Stack<'w> {
     pub words: &'w mut [u64],

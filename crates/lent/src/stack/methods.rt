@@ -1,6 +1,6 @@
 // What a stack does.
 ghost use Rattle.std.specs.Prelude.{◌≡◌, [], ◌∷◌, length, reverse};
-ghost use Rattle.std.specs.Fn.{FnOnceTakesAtMut, FnOnceReturnsAtMut};
+ghost use Rattle.std.specs.Fn.{CalledAtMut};
 ghost use Rattle.lent.specs.Piles.{pile_of, free_words, cut, Pushes, Pops, PopsPair};
 
 use super::Stack;
@@ -101,12 +101,13 @@ impl Stack<'_> {
         }
     }
 
-    // What `f` answers of the words that are free; what is on the stack stays.
+    // What `f` answers of the words that are free; what is on the stack stays. `f` is taken by `&mut` so that a caller knows what it
+    // changed beside the words.
     #[tactic(auto, unfolding(crate::specs::Piles::pile_of))]
-    pub fn above<R, F: FnOnce(&mut [u64]) -> R>(&mut self, f: F) -> R
-        requires { FnOnceTakesAtMut F.FnOnce f (free_words self.old) }
+    pub fn above<R, F: FnMut(&mut [u64]) -> R>(&mut self, f: &mut F) -> R
+        requires { (p : _) → p.now ≡ free_words self.old → F.pre f.old p }
         ensures cases { pile_of self.new ≡ pile_of self.old }
-        ensures called { FnOnceReturnsAtMut F.FnOnce f (free_words self.old) result (free_words self.new) }
+        ensures called { CalledAtMut F.FnMut f.old (free_words self.old) result f.new (free_words self.new) }
         ensures words_name { self.new.words.ghost_name ≡ self.old.words.ghost_name }
     {
         f(&mut self.words[self.len..])
