@@ -1,5 +1,5 @@
 // Stacks at work: filled to the last word, one above the other, and given back.
-ghost use Rattle.std.specs.Prelude.{◌≡◌, ◌+◌, ◌^◌, ◌<◌, length, slice_index};
+ghost use Rattle.std.specs.Prelude.{◌≡◌, ◌+◌, ◌-◌, ◌^◌, ◌<◌, ◌∷◌, length, replicate, slice_index, slice_set};
 ghost use Rattle.lent.specs.Piles.{pile_of};
 
 use crate::stack::Stack;
@@ -70,18 +70,18 @@ fn put(words: &mut [u64], word: u64)
     let _ = s.push(word);
 }
 
-// A word on a stack and one above it are both in the words; and what else was changed is known.
+// A word on a stack and one above it, among zeros: these are all the words; and what else was changed is known.
 #[tactic(auto, using(crate::proofs::Words::free_length), unfolding(crate::specs::Piles::pile_of))]
 fn put_both(words: &mut [u64], on: u64, above: u64, calls: &mut u64)
     requires words { 2 < length words.old }
     requires calls { calls.old + 1 < 2 ^ 64 }
-    ensures on { slice_index words.new 0 ≡ on }
-    ensures above { slice_index words.new 2 ≡ above }
+    ensures words { words.new ≡ on ∷ slice_set (replicate (length words.old - 1) 0) 1 above }
     ensures calls { calls.new ≡ calls.old + 1 }
 {
     let mut s = Stack::new(words);
     let _ = s.push(on);
     s.above(&mut |free: &mut [u64]| {
+        free.fill(0);
         free[1] = above;
         *calls += 1;
     });
@@ -96,6 +96,6 @@ fn given_back(rt: HostRuntime) {
     assert_eq!(rt; words, [7, 2, 3]);
     let mut calls = 0;
     put_both(&mut words, 8, 9, &mut calls);
-    assert_eq!(rt; words, [8, 2, 9]);
+    assert_eq!(rt; words, [8, 0, 9]);
     assert_eq!(rt; calls, 1);
 }
